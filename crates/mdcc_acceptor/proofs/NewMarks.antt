@@ -1,14 +1,12 @@
--- Whether marks of a structure are new, by how many of its transactions were voted.
-use Rattle.std.proofs.Common.{◌≡◌, ℕ, ◌+◌, ◌≤◌, Bool, List, [], ◌∷◌, filter, is_some, length, not, refl, arith, inl, inr}
+-- Whether marks of a structure are new, by how many of its transactions were voted or are finished.
+use Rattle.std.proofs.Common.{◌≡◌, ℕ, ◌+◌, ◌≤◌, Bool, List, [], ◌∷◌, filter, length, not, refl, arith, inl, inr}
 use Rattle.std.proofs.lemmas.Bool.{cases_Bool}
 use Rattle.mdcc_base.specs.Counts.{number_of}
 use Rattle.mdcc_base.specs.declared.identifiers.Ballot.{Ballot}
 use Rattle.mdcc_base.specs.declared.key.Key.{Key}
-use Rattle.mdcc_struct.specs.Maps.{value_of}
 use Rattle.mdcc_struct.specs.declared.options.Options.{Options}
 use Rattle.mdcc_protocol.specs.Acceptor.{answer_to_marks, new_marks}
-use Rattle.mdcc_protocol.specs.Facts.{votes_of}
-use Rattle.mdcc_protocol.specs.Stores.{count_voted}
+use Rattle.mdcc_facts.specs.Past.{count_past, is_past_mark}
 use Rattle.mdcc_protocol.specs.declared.acceptor.AcceptAnswer.{AcceptAnswer}
 use Rattle.mdcc_messages.specs.declared.facts.Fact.{Fact}
 
@@ -34,19 +32,19 @@ all_pass p (x ∷ xs) h =
     ]
 
 module _ (facts : List Fact) (key : Key) (version : ℕ) (ballot : Ballot) where
-  -- where each was voted, none is new
-  pub none_new : (options : Options) → count_voted facts key version ballot options ≡ length options
+  -- where each was voted or is finished, none is new
+  pub none_new : (options : Options) → count_past facts key version ballot options ≡ length options
       → answer_to_marks (new_marks facts key version ballot options) ≡ AcceptAnswer.Older
-  none_new options h = rw (all_pass (λ e. is_some (value_of (votes_of facts key version ballot) e.0)) options h) refl
+  none_new options h = rw (all_pass (λ e. is_past_mark facts key version ballot e.0) options h) refl
 
   -- else one is
-  pub one_new : (options : Options) → (count_voted facts key version ballot options ≡ length options → ⊥)
+  pub one_new : (options : Options) → (count_past facts key version ballot options ≡ length options → ⊥)
       → answer_to_marks (new_marks facts key version ballot options) ≡ AcceptAnswer.Vote
   one_new [] h = absurd (h refl)
   one_new (e ∷ es) h =
-      elim (cases_Bool (is_some (value_of (votes_of facts key version ballot) e.0))) [
-        | inl voted ↦
-            let rest : count_voted facts key version ballot es ≡ length es → ⊥ = λ k. h (rw voted (omega (arith, k))) in
-            rw voted (one_new es rest)
+      elim (cases_Bool (is_past_mark facts key version ballot e.0)) [
+        | inl past ↦
+            let rest : count_past facts key version ballot es ≡ length es → ⊥ = λ k. h (rw past (omega (arith, k))) in
+            rw past (one_new es rest)
         | inr new ↦ rw new refl
       ]

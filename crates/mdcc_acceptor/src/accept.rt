@@ -8,7 +8,7 @@ use mdcc_facts::FactStore;
 use mdcc_protocol::AcceptAnswer;
 use mdcc_struct::Options;
 
-// A vote, where a mark's transaction was not voted at the ballot.
+// A vote, where a mark's transaction is not finished and was not voted at the ballot.
 #[tactic(auto, using(crate::proofs::NewMarks::none_new, crate::proofs::NewMarks::one_new))]
 fn answer_to_marks<S: FactStore>(
     store: &S,
@@ -19,7 +19,7 @@ fn answer_to_marks<S: FactStore>(
 ) -> AcceptAnswer
     ensures { (facts : List AFact) → S.stands store.now facts → result ≡ answer_to_marks (new_marks facts key.now version ballot options.now) }
 {
-    if store.count_voted(key, version, ballot, options) == options.len() {
+    if store.count_past(key, version, ballot, options) == options.len() {
         AcceptAnswer::Older
     } else {
         AcceptAnswer::Vote

@@ -1,8 +1,8 @@
 //! What an acceptor answers to a proposal at the fast ballot. (Fast Paxos; MDCC.)
 ghost use Rattle.std.specs.Prelude.{◌≡◌, IfSome, List, None};
 ghost use Rattle.mdcc_messages.specs.declared.facts.Fact.{Fact as AFact};
-ghost use Rattle.mdcc_protocol.specs.Acceptor.{answer_after, answer_by_promise, answer_to_new, fit_of, on_propose, vote_by_fit, vote_on, vote_to_accept, vote_to_reject};
-ghost use Rattle.mdcc_protocol.specs.Facts.{heard_of, vote_of};
+ghost use Rattle.mdcc_protocol.specs.Acceptor.{answer_after, answer_by_promise, answer_by_vote, answer_to_new, fit_of, on_propose, vote_by_fit, vote_on, vote_to_accept, vote_to_reject};
+ghost use Rattle.mdcc_protocol.specs.Facts.{outcome_kept, vote_of};
 ghost use Rattle.mdcc_protocol.specs.Marks.{seen_in};
 ghost use Rattle.mdcc_protocol.specs.declared.acceptor.ProposeAnswer.{ProposeAnswer as AProposeAnswer};
 
@@ -120,15 +120,15 @@ fn answer_to_new<S: FactStore>(
     }
 }
 
-// The answer where the transaction was not heard: by what was voted on it in the instance.
-fn answer_to_unheard<S: FactStore>(
+// The answer by what was voted on the transaction in the instance.
+fn answer_by_vote<S: FactStore>(
     store: &S,
     cluster: &Cluster,
     choice: &Choice,
     answer: &mut ProposeAnswer,
 )
     ensures { (facts : List AFact) → S.stands store.now facts
-        → answer.new ≡ answer_after cluster.now facts choice.now None (vote_of facts choice.now.key choice.now.version choice.now.tx) }
+        → answer.new ≡ answer_by_vote cluster.now facts choice.now (vote_of facts choice.now.key choice.now.version choice.now.tx) }
 {
     match store.vote_of(&choice.key, choice.version, choice.tx) {
         Some((ballot, mark)) => *answer = ProposeAnswer::Again(ballot, mark),
@@ -136,11 +136,27 @@ fn answer_to_unheard<S: FactStore>(
     }
 }
 
-// The answer where the transaction was heard: how it ended.
+// The answer where no outcome is kept: whether the transaction is finished, and then by its vote.
+fn answer_to_unkept<S: FactStore>(
+    store: &S,
+    cluster: &Cluster,
+    choice: &Choice,
+    answer: &mut ProposeAnswer,
+)
+    ensures { (facts : List AFact) → S.stands store.now facts → answer.new ≡ answer_after cluster.now facts choice.now None }
+{
+    if store.finished(choice.tx) {
+        *answer = ProposeAnswer::Finished;
+    } else {
+        answer_by_vote(store, cluster, choice, answer);
+    }
+}
+
+// The answer where an outcome is kept: how the transaction ended.
 #[inline(never)]
-fn answer_to_heard<S: FactStore>(store: &S, tx: TxId, answer: &mut ProposeAnswer)
+fn answer_to_kept<S: FactStore>(store: &S, tx: TxId, answer: &mut ProposeAnswer)
     ensures { (facts : List AFact) → S.stands store.now facts
-        → IfSome (heard_of facts tx) (λ outcome. answer.new ≡ AProposeAnswer.Known outcome) }
+        → IfSome (outcome_kept facts tx) (λ outcome. answer.new ≡ AProposeAnswer.Known outcome) }
 {
     if let Some(outcome) = store.heard(tx) {
         *answer = ProposeAnswer::Known(outcome);
@@ -148,9 +164,9 @@ fn answer_to_heard<S: FactStore>(store: &S, tx: TxId, answer: &mut ProposeAnswer
 }
 
 /// What an acceptor answers to a proposal at the fast ballot, in this order: how the transaction
-/// ended, its vote in the instance, that it holds an older version, that it promised a classic
-/// ballot, and else a vote or why it gives none. It adds no fact: whoever sends a vote adds it
-/// first.
+/// ended, that it is finished, its vote in the instance, that it holds an older version, that it
+/// promised a classic ballot, and else a vote or why it gives none. It adds no fact: whoever sends a
+/// vote adds it first.
 pub fn answer_proposal<S: FactStore>(
     store: &S,
     cluster: &Cluster,
@@ -159,10 +175,10 @@ pub fn answer_proposal<S: FactStore>(
 )
     ensures { (facts : List AFact) → S.stands store.now facts → answer.new ≡ on_propose cluster.now facts choice.now }
 {
-    if store.is_heard(choice.tx) {
-        answer_to_heard(store, choice.tx, answer);
+    if store.ended(choice.tx).is_some() {
+        answer_to_kept(store, choice.tx, answer);
     } else {
-        answer_to_unheard(store, cluster, choice, answer);
+        answer_to_unkept(store, cluster, choice, answer);
     }
 }
 

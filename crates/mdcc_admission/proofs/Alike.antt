@@ -8,7 +8,8 @@ use Rattle.mdcc_base.specs.Counts.{sum_over}
 use Rattle.mdcc_option.specs.declared.cluster.Cluster.{Cluster}
 use Rattle.mdcc_ledger.specs.BootTest.{is_allowed_fact}
 use Rattle.mdcc_rules.specs.Boot.{boot_of, booted_by, is_past_cells, loaded_from, room_fault}
-use Rattle.mdcc_protocol.specs.Facts.{epoch_of}
+use Rattle.mdcc_protocol.specs.Facts.{epoch_of, has_floor, is_floor}
+use Rattle.mdcc_protocol.proofs.Plain.{cells_plain, no_floor_more}
 use Rattle.mdcc_messages.specs.Lengths.{cells_needed, cells_used}
 use Rattle.mdcc_messages.specs.declared.facts.Fact.{Fact}
 use Rattle.mdcc_rules.specs.declared.node.BootFault.{BootFault}
@@ -19,12 +20,12 @@ record SameRoom (cells : Cells) (cluster : Cluster) (facts : List Fact) (fact : 
   pub fault : is_past_cells cluster facts fact ≡ true → past_fault cells facts fact ≡ room_fault cluster facts fact
 
 one-alike : (n : ℕ) (allowed past past' : Bool) (fault fault' : BootFault) (loaded loaded' : Result (List Fact) BootFault)
-    → past ≡ past' → (past' ≡ true → fault ≡ fault') → (past' ≡ false → loaded ≡ loaded')
+    → past ≡ past' → (past' ≡ true → fault ≡ fault') → (allowed ≡ true → past' ≡ false → loaded ≡ loaded')
     → (if not allowed then Err (BootFault.NotARun (n + 1)) else (if past then Err fault else loaded))
     ≡ (if not allowed then Err (BootFault.NotARun (n + 1)) else (if past' then Err fault' else loaded'))
 one-alike n false past past' fault fault' loaded loaded' e f g = refl
 one-alike n true past true fault fault' loaded loaded' e f g = rw e (ap (λ x. Err x) (f refl))
-one-alike n true past false fault fault' loaded loaded' e f g = rw e (g refl)
+one-alike n true past false fault fault' loaded loaded' e f g = rw e (g refl refl)
 
 next-alike : (last past past' : Bool) (fault fault' : BootFault) (more : List Fact) → past ≡ past' → (past' ≡ true → fault ≡ fault')
     → (if last then Err BootFault.Epochs else (if past then Err fault else Ok more))
@@ -58,7 +59,7 @@ module _ (cells : Cells) (cluster : Cluster) (unbounded : AreUnbounded cells) wh
   loaded-unbounded facts n (Some fact ∷ payloads) =
       one-alike n (is_allowed_fact cluster facts fact) (is_past cells facts fact) (is_past list_cells facts fact) (past_fault cells facts fact) (past_fault list_cells facts fact)
       (loaded_by cells cluster (fact ∷ facts) (n + 1) payloads) (loaded_by list_cells cluster (fact ∷ facts) (n + 1) payloads)
-      (test-unbounded facts fact) (fault-unbounded facts fact) (λ fits. loaded-unbounded (fact ∷ facts) (n + 1) payloads)
+      (test-unbounded facts fact) (fault-unbounded facts fact) (λ allowed fits. loaded-unbounded (fact ∷ facts) (n + 1) payloads)
 
   next-unbounded : (loaded : Result (List Fact) BootFault) → next_by cells loaded ≡ next_by list_cells loaded
   next-unbounded (Err fault) = refl
@@ -75,6 +76,20 @@ unbounded_boots cells cluster payloads unbounded = boot-unbounded cells cluster 
 
 -- ---- counted cells
 
+-- an allowed fact sets no floor
+unfloored : (cluster : Cluster) (facts : List Fact) (fact : Fact) → is_allowed_fact cluster facts fact ≡ true → is_floor fact ≡ false
+unfloored cluster facts (Fact.Booted epoch) h = refl
+unfloored cluster facts (Fact.Promised key low high ballot) h = refl
+unfloored cluster facts (Fact.Voted key version ballot options offered) h = refl
+unfloored cluster facts (Fact.Heard tx outcome) h = refl
+unfloored cluster facts (Fact.Adopted key version item adds) h = refl
+unfloored cluster facts (Fact.Floor centre epoch seq) h = absurd (cc)
+
+-- facts without a floor that lie in the cells
+record AreWithin (cells : ℕ) (facts : List Fact) : Type 0 where
+  pub no_floor : has_floor facts ≡ false
+  pub within : cells_used facts ≤ cells
+
 module _ (cells : Cells) (cluster : Cluster) (total : cells.total ≡ cluster.cells)
     (needed : (fact : Fact) → cells.needed fact ≡ cells_needed fact) (few : cluster.cells < 2 ^ 63) where
   used : (facts : List Fact) → sum_over cells.needed facts ≡ cells_used facts
@@ -84,38 +99,46 @@ module _ (cells : Cells) (cluster : Cluster) (total : cells.total ≡ cluster.ce
   stops : (a b : ℕ) → a ≤ b → min a b ≡ a
   stops a b h = omega arith
 
-  room-counted : (facts : List Fact) (fact : Fact) → cells_used facts ≤ cluster.cells → cells_needed fact < 2 ^ 63 → SameRoom cells cluster facts fact
-  room-counted facts fact within small = record {
-    test = rw (total, used facts, needed fact) refl;
-    fault = λ past. rw (total, used facts, needed fact) (ap (λ k. BootFault.Room k cluster.cells) (stops (cells_used facts + cells_needed fact) (2 ^ 64 - 1) (omega arith)));
-  }
+  room-counted : (facts : List Fact) (fact : Fact) → AreWithin cluster.cells facts → cells_needed fact < 2 ^ 63 → SameRoom cells cluster facts fact
+  room-counted facts fact are small =
+      let most = are.within in
+      record {
+        test = rw (total, used facts, needed fact, cells_plain facts are.no_floor) refl;
+        fault = λ past.
+            rw (total, used facts, needed fact, cells_plain facts are.no_floor)
+            (ap (λ k. BootFault.Room k cluster.cells) (stops (cells_used facts + cells_needed fact) (2 ^ 64 - 1) (omega arith)));
+      }
 
-  stays : (facts : List Fact) (fact : Fact) → is_past_cells cluster facts fact ≡ false → cells_used (fact ∷ facts) ≤ cluster.cells
-  stays facts fact fits =
-      over cluster.cells (cells_used facts) (cells_needed fact) fits
+  stays : (facts : List Fact) (fact : Fact) → AreWithin cluster.cells facts → is_allowed_fact cluster facts fact ≡ true → is_past_cells cluster facts fact ≡ false
+      → AreWithin cluster.cells (fact ∷ facts)
+  stays facts fact are allowed fits =
+      record {
+        no_floor = no_floor_more fact facts (unfloored cluster facts fact allowed) are.no_floor;
+        within = over cluster.cells (cells_used facts) (cells_needed fact) (sym (ap (λ used. nat_lt cluster.cells (used + cells_needed fact)) (cells_plain facts are.no_floor)) ∙ fits);
+      }
     where
       over : (all used needs : ℕ) → nat_lt all (used + needs) ≡ false → needs + used ≤ all
       over all used needs h = grind (arith, nat_tests)
 
   -- whether a load leaves facts within the cells
   abbrev IsWithin : Result (List Fact) BootFault → Type 0
-  IsWithin (Ok facts) = cells_used facts ≤ cluster.cells
+  IsWithin (Ok facts) = AreWithin cluster.cells facts
   IsWithin (Err fault) = Unit {0}
 
-  within-one : (n : ℕ) (allowed past : Bool) (fault : BootFault) (loaded : Result (List Fact) BootFault) → (past ≡ false → IsWithin loaded)
+  within-one : (n : ℕ) (allowed past : Bool) (fault : BootFault) (loaded : Result (List Fact) BootFault) → (allowed ≡ true → past ≡ false → IsWithin loaded)
       → IsWithin (if not allowed then Err (BootFault.NotARun (n + 1)) else (if past then Err fault else loaded))
   within-one n false past fault loaded h = tt
   within-one n true true fault loaded h = tt
-  within-one n true false fault loaded h = h refl
+  within-one n true false fault loaded h = h refl refl
 
-  loaded-within : (facts : List Fact) (n : ℕ) (payloads : List (Option Fact)) → cells_used facts ≤ cluster.cells → IsWithin (loaded_from cluster facts n payloads)
+  loaded-within : (facts : List Fact) (n : ℕ) (payloads : List (Option Fact)) → AreWithin cluster.cells facts → IsWithin (loaded_from cluster facts n payloads)
   loaded-within facts n [] h = h
   loaded-within facts n (None ∷ payloads) h = tt
   loaded-within facts n (Some fact ∷ payloads) h =
       within-one n (is_allowed_fact cluster facts fact) (is_past_cells cluster facts fact) (room_fault cluster facts fact)
-      (loaded_from cluster (fact ∷ facts) (n + 1) payloads) (λ fits. loaded-within (fact ∷ facts) (n + 1) payloads (stays facts fact fits))
+      (loaded_from cluster (fact ∷ facts) (n + 1) payloads) (λ allowed fits. loaded-within (fact ∷ facts) (n + 1) payloads (stays facts fact h allowed fits))
 
-  loaded-counted : (facts : List Fact) (n : ℕ) (payloads : List (Option Fact)) → cells_used facts ≤ cluster.cells
+  loaded-counted : (facts : List Fact) (n : ℕ) (payloads : List (Option Fact)) → AreWithin cluster.cells facts
       → AllByRecursion (λ payload. (fact : Fact) → payload ≡ Some fact → cells_needed fact < 2 ^ 63) payloads
       → loaded_by cells cluster facts n payloads ≡ loaded_from cluster facts n payloads
   loaded-counted facts n [] h small = refl
@@ -124,7 +147,7 @@ module _ (cells : Cells) (cluster : Cluster) (total : cells.total ≡ cluster.ce
       let room = room-counted facts fact h (small.0 fact refl) in
       one-alike n (is_allowed_fact cluster facts fact) (is_past cells facts fact) (is_past_cells cluster facts fact) (past_fault cells facts fact) (room_fault cluster facts fact)
       (loaded_by cells cluster (fact ∷ facts) (n + 1) payloads) (loaded_from cluster (fact ∷ facts) (n + 1) payloads)
-      room.test room.fault (λ fits. loaded-counted (fact ∷ facts) (n + 1) payloads (stays facts fact fits) small.1)
+      room.test room.fault (λ allowed fits. loaded-counted (fact ∷ facts) (n + 1) payloads (stays facts fact h allowed fits) small.1)
 
   next-counted : (loaded : Result (List Fact) BootFault) → IsWithin loaded → next_by cells loaded ≡ booted_by cluster loaded
   next-counted (Err fault) h = refl
@@ -138,7 +161,7 @@ module _ (cells : Cells) (cluster : Cluster) (total : cells.total ≡ cluster.ce
   boot-counted : (payloads : List (Option Fact)) → AllByRecursion (λ payload. (fact : Fact) → payload ≡ Some fact → cells_needed fact < 2 ^ 63) payloads
       → boot_by cells cluster payloads ≡ boot_of cluster payloads
   boot-counted payloads small =
-      let none : cells_used [] ≤ cluster.cells = omega arith in
+      let none : AreWithin cluster.cells [] = record { no_floor = refl; within = omega arith } in
       ap (next_by cells) (loaded-counted [] 0 payloads none small) ∙ next-counted (loaded_from cluster [] 0 payloads) (loaded-within [] 0 payloads none)
 
 pub counted_boots : BootsWithinCells

@@ -8,7 +8,7 @@ use Rattle.mdcc_option.specs.declared.cluster.Cluster.{Cluster}
 use Rattle.mdcc_ledger.specs.BootTest.{are_allowed_facts, is_allowed_fact}
 use Rattle.mdcc_ledger.specs.AllowedFacts.{is_booted}
 use Rattle.mdcc_protocol.specs.Belongs.{fact_belongs}
-use Rattle.mdcc_protocol.specs.Facts.{epoch_of, is_heard}
+use Rattle.mdcc_protocol.specs.Facts.{epoch_of, is_finished, is_heard}
 use Rattle.mdcc_protocol.specs.News.{is_crowding, is_news}
 use Rattle.mdcc_messages.specs.declared.facts.Fact.{Fact}
 
@@ -20,15 +20,22 @@ and-assoc : (a b c : Bool) → (a && (b && c)) ≡ ((a && b) && c)
 and-assoc true b c = refl
 and-assoc false b c = refl
 
+unsettled : (a heard finished d : Bool) → (a && (not heard && not finished && d)) ≡ (a && not (heard || finished) && d)
+unsettled true true finished d = refl
+unsettled true false finished d = refl
+unsettled false heard finished d = refl
+
 pub admission_exact : AdmissionIsExact
 admission_exact cluster facts (Fact.Booted epoch) counted = rw (← counted) (and-true (is_admitted cluster facts (Fact.Booted epoch)))
 admission_exact cluster facts (Fact.Promised key low high ballot) counted = and-true (is_admitted cluster facts (Fact.Promised key low high ballot))
 admission_exact cluster facts (Fact.Voted key version ballot options offered) counted = and-true (is_admitted cluster facts (Fact.Voted key version ballot options offered))
 admission_exact cluster facts (Fact.Heard tx outcome) counted =
-    and-assoc (fact_belongs cluster (Fact.Heard tx outcome) && (false || nat_lt 0 (epoch_of facts))) (not (is_heard facts tx)) (not (is_crowding facts (Fact.Heard tx outcome)))
+    unsettled (fact_belongs cluster (Fact.Heard tx outcome) && (false || nat_lt 0 (epoch_of facts))) (is_heard facts tx) (is_finished facts tx)
+    (not (is_crowding facts (Fact.Heard tx outcome)))
 admission_exact cluster facts (Fact.Adopted key version item adds) counted =
     and-assoc (fact_belongs cluster (Fact.Adopted key version item adds) && (false || nat_lt 0 (epoch_of facts))) (is_news facts key version adds)
     (not (is_crowding facts (Fact.Adopted key version item adds)))
+admission_exact cluster facts (Fact.Floor centre epoch seq) counted = refl
 
 -- ---- epochs
 
@@ -45,6 +52,7 @@ counted-by cluster facts (Fact.Promised key low high ballot) counted h = no_more
 counted-by cluster facts (Fact.Voted key version ballot options offered) counted h = no_more (epoch_of facts) (number_of is_booted facts) counted
 counted-by cluster facts (Fact.Heard tx outcome) counted h = no_more (epoch_of facts) (number_of is_booted facts) counted
 counted-by cluster facts (Fact.Adopted key version item adds) counted h = no_more (epoch_of facts) (number_of is_booted facts) counted
+counted-by cluster facts (Fact.Floor centre epoch seq) counted h = absurd (cc)
 
 pub stay_counted : EpochsStayCounted
 stay_counted cluster facts fact counted h =

@@ -11,7 +11,7 @@ use Rattle.mdcc_base.specs.declared.key.Key.{Key}
 use Rattle.mdcc_option.specs.declared.choices.Mark.{Mark}
 use Rattle.mdcc_struct.specs.Maps.{value_of}
 use Rattle.mdcc_struct.proofs.Values.{value_of-union}
-use Rattle.mdcc_protocol.specs.Facts.{ballot_promised, later_vote, mark_voted, marks_voted, promise_of, vote_of, votes_of}
+use Rattle.mdcc_protocol.specs.Facts.{ballot_promised, last_vote, later_vote, mark_voted, marks_voted, promise_of, votes_of}
 use Rattle.mdcc_messages.specs.declared.facts.Fact.{Fact}
 
 -- whether the vote is at the ballot
@@ -65,17 +65,18 @@ at_most-voted key version tx ballot (Fact.Voted key' version' ballot' options of
     by true k (Some mark) = k
     by false k found = tt
 at_most-voted key version tx ballot (Fact.Booted epoch) h = tt
+at_most-voted key version tx ballot (Fact.Floor origin era upto) h = tt
 at_most-voted key version tx ballot (Fact.Promised key' low high ballot') h = tt
 at_most-voted key version tx ballot (Fact.Heard tx' outcome) h = tt
 at_most-voted key version tx ballot (Fact.Adopted key' version' item adds) h = tt
 
 last-at_most : (facts : List Fact) (key : Key) (version : ℕ) (tx : TxId) (ballot : Ballot) → ballot_lt ballot (promise_of facts key version) ≡ false
-    → IsAtMost ballot (vote_of facts key version tx)
+    → IsAtMost ballot (last_vote facts key version tx)
 last-at_most [] key version tx ballot h = tt
 last-at_most (fact ∷ facts) key version tx ballot h =
     let old = last-at_most facts key version tx ballot (max-left (promise_of facts key version) (ballot_promised key version fact) ballot h) in
     let new = at_most-voted key version tx ballot fact (max-right (promise_of facts key version) (ballot_promised key version fact) ballot h) in
-    at_most-later ballot (vote_of facts key version tx) (mark_voted key version tx fact) old new
+    at_most-later ballot (last_vote facts key version tx) (mark_voted key version tx fact) old new
 
 -- ---- a vote at the ballot is the last
 
@@ -110,6 +111,7 @@ at-voted key version tx ballot (Fact.Voted key' version' ballot' options offered
     by true false false other found is = refl
     by false b k is_b found is = refl
 at-voted key version tx ballot (Fact.Booted epoch) = refl
+at-voted key version tx ballot (Fact.Floor origin era upto) = refl
 at-voted key version tx ballot (Fact.Promised key' low high ballot') = refl
 at-voted key version tx ballot (Fact.Heard tx' outcome) = refl
 at-voted key version tx ballot (Fact.Adopted key' version' item adds) = refl
@@ -119,7 +121,7 @@ either None b = refl
 either (Some x) b = refl
 
 pub voted_last : (facts : List Fact) (key : Key) (version : ℕ) (tx : TxId) (ballot : Ballot) → ballot_lt ballot (promise_of facts key version) ≡ false
-    → is_some (value_of (votes_of facts key version ballot) tx) ≡ is_at ballot (vote_of facts key version tx)
+    → is_some (value_of (votes_of facts key version ballot) tx) ≡ is_at ballot (last_vote facts key version tx)
 voted_last [] key version tx ballot h = refl
 voted_last (fact ∷ facts) key version tx ballot h =
     let below = max-left (promise_of facts key version) (ballot_promised key version fact) ballot h in
@@ -132,9 +134,9 @@ voted_last (fact ∷ facts) key version tx ballot h =
       voted_last facts key version tx ballot below,
       at-voted key version tx ballot fact,
     )
-    (at-later ballot (vote_of facts key version tx) (mark_voted key version tx fact) old new)
+    (at-later ballot (last_vote facts key version tx) (mark_voted key version tx fact) old new)
 
 -- as a store answers it
-pub voted_by_last : (facts : List Fact) (key : Key) (version : ℕ) (tx : TxId) (ballot : Ballot) (vote : Option (Ballot × Mark)) → vote ≡ vote_of facts key version tx
+pub voted_by_last : (facts : List Fact) (key : Key) (version : ℕ) (tx : TxId) (ballot : Ballot) (vote : Option (Ballot × Mark)) → vote ≡ last_vote facts key version tx
     → ballot_lt ballot (promise_of facts key version) ≡ false → is_at ballot vote ≡ is_some (value_of (votes_of facts key version ballot) tx)
 voted_by_last facts key version tx ballot vote same h = rw (same, voted_last facts key version tx ballot h) refl

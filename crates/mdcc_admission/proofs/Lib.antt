@@ -4,6 +4,7 @@ pub mod Exact
 pub mod Fresh
 pub mod LastVotes
 pub mod Marks
+pub mod Refused
 pub mod Several
 pub mod Short
 pub mod Single

@@ -1,5 +1,5 @@
 -- The marks of a structure, one after the other.
-use Rattle.std.proofs.Common.{◌≡◌, ℕ, ◌+◌, Bool, true, false, List, [], ◌∷◌, Some, drop, is_some, not, slice_get, refl, arith, inl, inr, zero-add, ◌&&◌, ◌==◌}
+use Rattle.std.proofs.Common.{◌≡◌, ℕ, ◌+◌, Bool, true, false, List, [], ◌∷◌, Some, drop, not, slice_get, refl, arith, inl, inr, zero-add, ◌&&◌, ◌==◌}
 use Rattle.std.specs.List.{list_all}
 use Rattle.std.proofs.lemmas.Bool.{cases_Bool}
 use Rattle.std.proofs.lemmas.Bool.Decides.{nat_tests}
@@ -9,12 +9,10 @@ use Rattle.mdcc_base.specs.declared.identifiers.Ballot.{Ballot}
 use Rattle.mdcc_base.specs.declared.identifiers.TxId.{TxId}
 use Rattle.mdcc_base.specs.declared.key.Key.{Key}
 use Rattle.mdcc_option.specs.declared.choices.Mark.{Mark}
+use Rattle.mdcc_facts.specs.Past.{count_past, is_past_mark}
 use Rattle.mdcc_option.specs.declared.cluster.Cluster.{Cluster}
 use Rattle.mdcc_protocol.specs.Belongs.{mark_belongs, options_belong, tx_belongs}
-use Rattle.mdcc_protocol.specs.Facts.{votes_of}
-use Rattle.mdcc_protocol.specs.Stores.{count_voted}
 use Rattle.mdcc_messages.specs.declared.facts.Fact.{Fact}
-use Rattle.mdcc_struct.specs.Maps.{value_of}
 use Rattle.mdcc_struct.specs.declared.options.Options.{Options}
 use Rattle.mdcc_struct.proofs.Walks.{drop-get}
 
@@ -26,7 +24,7 @@ module _ (cluster : Cluster) (options : Options) (i : ℕ) (tx : TxId) (mark : M
   pub one-apart : (tx_belongs cluster tx && mark_belongs cluster mark) ≡ false → options_belong cluster (drop i options) ≡ false
   one-apart e = rw (drop-get options i (tx, mark) at, e) refl
 
--- ---- none was voted
+-- ---- none is past
 
 none_pass : {X : Type 0} (p : X → Bool) (xs : List X) → (number_of p xs == 0) ≡ list_all (λ x. not (p x)) xs
 none_pass p [] = refl
@@ -40,5 +38,5 @@ none_pass p (x ∷ xs) =
     more n = grind (arith, nat_tests)
 
 pub none_voted : (facts : List Fact) (key : Key) (version : ℕ) (ballot : Ballot) (options : Options)
-    → (count_voted facts key version ballot options == 0) ≡ are_new facts key version ballot options
-none_voted facts key version ballot options = none_pass (λ e. is_some (value_of (votes_of facts key version ballot) e.0)) options
+    → (count_past facts key version ballot options == 0) ≡ are_new facts key version ballot options
+none_voted facts key version ballot options = none_pass (λ e. is_past_mark facts key version ballot e.0) options

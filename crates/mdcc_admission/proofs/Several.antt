@@ -7,13 +7,14 @@ use Rattle.mdcc_admission.specs.Admission.{are_new}
 use Rattle.mdcc_base.specs.Ballot.{ballot_lt}
 use Rattle.mdcc_base.specs.declared.identifiers.Ballot.{Ballot}
 use Rattle.mdcc_base.specs.declared.key.Key.{Key}
+use Rattle.mdcc_facts.specs.Past.{is_past_mark}
 use Rattle.mdcc_option.specs.declared.choices.Choice.{Choice}
-use Rattle.mdcc_struct.specs.Maps.{are_ascending, value_of}
+use Rattle.mdcc_struct.specs.Maps.{are_ascending}
 use Rattle.mdcc_struct.specs.declared.options.Options.{Options}
 use Rattle.mdcc_struct.proofs.Ordered.{ascending-below, ascending-tail, value_of-below}
 use Rattle.mdcc_ledger.specs.AllowedFacts.{are_apart}
 use Rattle.mdcc_ledger.specs.BootTest.{is_allowed_classic_vote}
-use Rattle.mdcc_protocol.specs.Facts.{current_of, promise_of, votes_of}
+use Rattle.mdcc_protocol.specs.Facts.{current_of, promise_of}
 use Rattle.mdcc_messages.specs.declared.facts.Fact.{Fact}
 
 -- ascending transactions are apart
@@ -57,7 +58,7 @@ module _ (facts : List Fact) (key : Key) (version : ℕ) (ballot : Ballot) (opti
       → (nat_le version (current_of facts key) && nat_lt 0 (length options) && are_new facts key version ballot options && not (is_some offered))
       ≡ is_allowed_classic_vote facts key version ballot options offered
   classic_vote below ascending =
-      rw (below, ascending-apart options ascending, kept_all (λ e. not (is_some (value_of (votes_of facts key version ballot) e.0))) options)
+      rw (below, ascending-apart options ascending, kept_all (λ e. not (is_past_mark facts key version ballot e.0)) options)
       (in_order (nat_le version (current_of facts key)) (nat_lt 0 (length options)) (are_new facts key version ballot options) (not (is_some offered)))
 
   pub no_vote : ballot_lt ballot (promise_of facts key version) ≡ true → false ≡ is_allowed_classic_vote facts key version ballot options offered

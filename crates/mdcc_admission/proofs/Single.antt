@@ -1,5 +1,6 @@
 -- Votes of one mark at the fast ballot.
-use Rattle.std.proofs.Common.{◌≡◌, ℕ, Bool, true, false, not, ◌&&◌, ◌==◌, nat_le, nat_lt, List, [], ◌∷◌, length, slice_get, Option, Some, None, is_some, refl, sym, ◌∙◌, ap, arith, inl, inr}
+use Rattle.std.proofs.Common.{◌≡◌, ℕ, Bool, true, false, not, ◌&&◌, ◌==◌, nat_le, nat_lt, List, [], ◌∷◌, length, slice_get, Option, Some, None, is_some, refl, sym, ◌∙◌, ap, arith, if◌then◌else◌, inl, inr}
+use Rattle.std.specs.List.{list_any}
 use Rattle.std.proofs.lemmas.Bool.{cases_Bool, eqb-true}
 use Rattle.std.proofs.lemmas.Bool.Decides.{nat_tests}
 use Rattle.mdcc_admission.specs.Admission.{is_allowed_single}
@@ -15,9 +16,10 @@ use Rattle.mdcc_option.specs.declared.choices.Outcome.{Outcome}
 use Rattle.mdcc_option.specs.declared.cluster.Cluster.{Cluster}
 use Rattle.mdcc_option.proofs.Equal.{Decides-tx, Decides-key}
 use Rattle.mdcc_struct.specs.declared.options.Options.{Options}
-use Rattle.mdcc_protocol.specs.Acceptor.{answer_after, answer_to_new, on_propose, vote_on}
+use Rattle.mdcc_protocol.specs.Acceptor.{answer_after, answer_by_vote, answer_to_new, on_propose, vote_on}
 use Rattle.mdcc_ledger.specs.BootTest.{is_allowed_fast_vote, is_allowed_mark, is_answer}
-use Rattle.mdcc_protocol.specs.Facts.{current_of, heard_of, is_heard, promise_of, vote_of}
+use Rattle.mdcc_protocol.specs.Facts.{current_of, heard_of, is_finished, is_heard, is_past, outcome_kept, promise_of, shows_mark, vote_of}
+use Rattle.mdcc_protocol.specs.declared.acceptor.ProposeAnswer.{ProposeAnswer}
 use Rattle.mdcc_messages.specs.declared.facts.Fact.{Fact}
 
 -- ---- the acceptor's answer
@@ -42,34 +44,68 @@ module _ (cluster : Cluster) (facts : List Fact) (mark : Mark) (choice : Choice)
             ]
       ]
 
-  answer_by : (heard : Option Outcome) (vote : Option (Ballot × Mark)) (held fast voted : Bool)
+  -- the answer by whether the transaction is finished, and by its vote
+  abbrev answer_by : Option Outcome → Bool → Option (Ballot × Mark) → ProposeAnswer
+  answer_by (Some outcome) finished vote = ProposeAnswer.Known outcome
+  answer_by None finished vote = if finished then ProposeAnswer.Finished else answer_by_vote cluster facts choice vote
+
+  answer_is : (kept : Option Outcome)
+      → answer_after cluster facts choice kept ≡ answer_by kept (is_finished facts choice.tx) (vote_of facts choice.key choice.version choice.tx)
+  answer_is None = refl
+  answer_is (Some outcome) = refl
+
+  -- a finished transaction gets no vote
+  never : (a b c d e : Bool) → false ≡ (a && b && c && d && false && e)
+  never true true true true e = refl
+  never true true true false e = refl
+  never true true false d e = refl
+  never true false c d e = refl
+  never false b c d e = refl
+
+  not_finished : (kept : Option Outcome) (vote : Option (Ballot × Mark)) (a b c d e : Bool) → is_answer mark (answer_by kept true vote) ≡ (a && b && c && d && false && e)
+  not_finished None vote a b c d e = never a b c d e
+  not_finished (Some outcome) vote a b c d e = never a b c d e
+
+  -- of one that is not, what was heard is kept
+  unfinished : (heard : Option Outcome) (vote : Option (Ballot × Mark)) (held fast voted : Bool)
       → is_answer mark (answer_to_new cluster facts choice) ≡ (held && fast && voted)
-      → is_answer mark (answer_after cluster facts choice heard vote) ≡ (held && fast && not (is_some vote) && not (is_some heard) && voted)
-  answer_by (Some outcome) vote held fast voted h = nothing held fast (not (is_some vote)) voted
+      → is_answer mark (answer_by heard false vote) ≡ (held && fast && not (is_some vote) && not (is_some heard) && true && voted)
+  unfinished (Some outcome) vote held fast voted h = nothing held fast (not (is_some vote)) voted
     where
-      nothing : (a b c d : Bool) → false ≡ (a && b && c && false && d)
+      nothing : (a b c d : Bool) → false ≡ (a && b && c && false && true && d)
       nothing true true true d = refl
       nothing true true false d = refl
       nothing true false c d = refl
       nothing false b c d = refl
-  answer_by None (Some vote) held fast voted h = nothing held fast voted
+  unfinished None (Some vote) held fast voted h = nothing held fast voted
     where
-      nothing : (a b d : Bool) → false ≡ (a && b && false && true && d)
+      nothing : (a b d : Bool) → false ≡ (a && b && false && true && true && d)
       nothing true true d = refl
       nothing true false d = refl
       nothing false b d = refl
-  answer_by None None held fast voted h = h ∙ same held fast voted
+  unfinished None None held fast voted h = h ∙ same held fast voted
     where
-      same : (a b d : Bool) → (a && b && d) ≡ (a && b && true && true && d)
+      same : (a b d : Bool) → (a && b && d) ≡ (a && b && true && true && true && d)
       same true true d = refl
       same true false d = refl
       same false b d = refl
 
+  by_finished : (finished past shown : Bool) (heard : Option Outcome) (vote : Option (Ballot × Mark)) (held fast voted : Bool)
+      → is_answer mark (answer_to_new cluster facts choice) ≡ (held && fast && voted)
+      → is_answer mark (answer_by (if finished && past && shown then None else heard) finished vote)
+      ≡ (held && fast && not (is_some vote) && not (is_some heard) && not finished && voted)
+  by_finished true past shown heard vote held fast voted h =
+      not_finished (if past && shown then None else heard) vote held fast (not (is_some vote)) (not (is_some heard)) voted
+  by_finished false past shown heard vote held fast voted h = unfinished heard vote held fast voted h
+
   own_answer : is_answer mark (on_propose cluster facts choice)
       ≡ (nat_le choice.version (current_of facts choice.key) && is_fast (promise_of facts choice.key choice.version)
-      && not (is_some (vote_of facts choice.key choice.version choice.tx)) && not (is_heard facts choice.tx) && is_answer mark (vote_on cluster facts choice))
+      && not (is_some (vote_of facts choice.key choice.version choice.tx)) && not (is_heard facts choice.tx) && not (is_finished facts choice.tx)
+      && is_answer mark (vote_on cluster facts choice))
   own_answer =
-      answer_by (heard_of facts choice.tx) (vote_of facts choice.key choice.version choice.tx)
+      ap (is_answer mark) (answer_is (outcome_kept facts choice.tx))
+      ∙ by_finished (is_finished facts choice.tx) (is_past facts (heard_of facts choice.tx)) (not (list_any (shows_mark facts choice.tx) facts))
+      (heard_of facts choice.tx) (vote_of facts choice.key choice.version choice.tx)
       (nat_le choice.version (current_of facts choice.key)) (is_fast (promise_of facts choice.key choice.version)) (is_answer mark (vote_on cluster facts choice)) answer_new
 
   own_mark : is_answer mark (on_propose cluster facts choice) ≡ is_allowed_mark cluster facts choice.key choice.version choice.tx mark choice

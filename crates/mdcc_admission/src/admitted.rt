@@ -47,13 +47,14 @@ fn is_admitted_kind<S: FactStore>(store: &S, cluster: &Cluster, fact: &Fact) -> 
             options,
             offered,
         } => is_allowed_vote(store, cluster, key, *version, ballot, options, offered),
-        Fact::Heard { tx, outcome: _ } => !store.is_heard(*tx),
+        Fact::Heard { tx, outcome: _ } => !store.is_settled(*tx),
         Fact::Adopted {
             key,
             version,
             item: _,
             adds,
         } => is_news(store, key, *version, adds.as_slice()),
+        Fact::Floor { .. } => false,
     }
 }
 

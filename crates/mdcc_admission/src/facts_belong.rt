@@ -42,5 +42,6 @@ pub(crate) fn fact_belongs(cluster: &Cluster, fact: &Fact) -> bool
         Fact::Adopted { item, adds, .. } => {
             item_belongs(cluster, item) && adds_belong(cluster, adds.as_slice())
         }
+        Fact::Floor { .. } => false,
     }
 }

@@ -92,7 +92,7 @@ fn is_allowed_fast_vote<S: FactStore>(
 
 // ---- at a classic ballot
 
-// Whether no mark of the structure was voted at the ballot.
+// Whether no mark of the structure was voted at the ballot, and none is of a finished transaction.
 #[tactic(auto, using(crate::proofs::Marks::none_voted))]
 fn are_new<S: FactStore>(
     store: &S,
@@ -103,7 +103,7 @@ fn are_new<S: FactStore>(
 ) -> bool
     ensures { (facts : List AFact) → S.stands store.now facts → result ≡ are_new facts key.now version ballot options.now }
 {
-    store.count_voted(key, version, ballot, options) == 0
+    store.count_past(key, version, ballot, options) == 0
 }
 
 // Whether a vote at a classic ballot may, where it is not below the promise.

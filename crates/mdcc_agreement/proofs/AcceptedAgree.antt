@@ -1,13 +1,12 @@
 -- Choices that are accepted together agree, where their transactions are not aborted.
 use Rattle.std.proofs.Common.{◌≡◌, ℕ, ◌+◌, ◌-◌, ◌≤◌, ◌==◌, Bool, true, false, List, [], ◌∷◌, length, refl, sym, ap, ◌∙◌, subst, arith, inl, inr, ◌⊎◌, Some}
-use Rattle.std.proofs.lemmas.Bool.{cases_Bool, or_cases, eqb-true}
+use Rattle.std.proofs.lemmas.Bool.{cases_Bool, eqb-true}
 use Rattle.mdcc_base.specs.TxId.{tx_eq}
 use Rattle.mdcc_base.specs.declared.identifiers.Ballot.{Ballot}
 use Rattle.mdcc_base.specs.declared.identifiers.TxId.{TxId}
 use Rattle.mdcc_option.specs.declared.choices.Choice.{Choice}
 use Rattle.mdcc_option.specs.declared.choices.Mark.{Mark}
-use Rattle.mdcc_option.specs.declared.choices.Mark.TheVariants.{Accept, Reject}
-use Rattle.mdcc_option.specs.declared.choices.Outcome.TheVariants.{Commit, Abort}
+use Rattle.mdcc_option.specs.declared.choices.Mark.TheVariants.{Accept}
 use Rattle.mdcc_option.specs.declared.items.Item.{Item}
 use Rattle.mdcc_option.specs.declared.items.Update.{Update}
 use Rattle.mdcc_option.specs.declared.items.Update.TheVariants.{Write, Add}
@@ -15,18 +14,26 @@ use Rattle.mdcc_agreement.proofs.BallotOrder.{Below-cases, Below-fast, Below-cla
 use Rattle.mdcc_agreement.proofs.Ballots.{fast, Below}
 use Rattle.mdcc_agreement.proofs.BegunOnce.{IsChoice-tail, one_choice, HasSeen, seen_adds}
 use Rattle.mdcc_agreement.proofs.StructuresExtend.{backed, marks_at-cases, append-none}
-use Rattle.mdcc_agreement.proofs.ReportsCounted.{some_counted, some_common, count-le, length-reports, reports-of, all_fast}
+use Rattle.mdcc_agreement.proofs.ReportsCounted.{some_counted, some_common, length-reports, reports-of, all_fast}
 use Rattle.mdcc_agreement.proofs.BothCounted.{length-centres}
-use Rattle.mdcc_agreement.proofs.EveryStructure.{every}
-use Rattle.mdcc_agreement.proofs.LedgersGrow.{IsTail-same, IsTail-drop, Allowed-tail, votes_more}
+use Rattle.mdcc_agreement.proofs.EveryStructure.{every, every_sent, reports_for}
+use Rattle.mdcc_agreement.proofs.LedgersGrow.{IsTail-same, IsTail-drop, Allowed-tail, IsTail-trans, last-sent, sent_tail, shown-voted}
 use Rattle.mdcc_agreement.proofs.OneMark.{size-classic, in_structures}
 use Rattle.mdcc_agreement.proofs.Setups.{Setup, IsSetup, centres_to, count}
-use Rattle.mdcc_agreement.proofs.ReducedFacts.{ReducedFact, Booted, Promised, Voted, Heard, Adopted, votes, marks_at, voted_below, ReducedReport, report, void, IsAcceptedVote}
+use Rattle.mdcc_agreement.proofs.ReducedFacts.{ReducedFact, Voted, votes, marks_at, voted_below, ReducedReport, report, IsAcceptedVote, HasHeard, current, shown}
 use Rattle.mdcc_agreement.proofs.ReducedForced.{top}
-use Rattle.mdcc_agreement.proofs.ReducedLedger.{IsTail, Entry, Happened, Begun, Valued, facts_of, WasSent, IsChosen, IsChoice, IsAborted, IsFit, IsAcceptedIn, reports_of, members, MayAdd, IsFastVote, MayVote, MayHappen, IsFirst, IsBacked, Allowed}
-use Rattle.mdcc_agreement.proofs.ReducedOptions.{spot, In, Place, is_add, mark_of, gives, Extends, agree, Agrees, allows, Distinct}
-use Rattle.mdcc_agreement.proofs.TestsDecide.{Decides-tx, Decides-is_mark}
+use Rattle.mdcc_agreement.proofs.ReducedLedger.{IsTail, Entry, Happened, Begun, Valued, facts_of, WasSent, IsChosen, IsChoice, IsAborted, IsFit, IsAcceptedIn, reports_of, members, MayAdd, IsFastVote, MayVote, MayHappen, IsFirst, IsBacked, Allowed, Executes, Grown, IsLive, Step, last_sent}
+use Rattle.mdcc_agreement.proofs.ReducedOptions.{spot, In, Place, is_add, mark_of, gives, Extends, agree, Agrees, allows, Distinct, allows_delta}
+use Rattle.mdcc_agreement.proofs.TestsDecide.{Decides-is_mark, Decides-tx}
 use Rattle.mdcc_agreement.proofs.VotesOfFacts.{mark_of-append_cases, marks_at-shows, HasVoted-mark}
+use Rattle.mdcc_agreement.proofs.ChosenBelow.{Grown-less, chosen_last, chosen_not_over, fast_meet}
+use Rattle.mdcc_agreement.proofs.HeardHere.{cases_heard, heard_here, may_count}
+
+-- agreement with a delta that a new choice allows
+delta-agrees : (x y : Update) (t u : TxId) → is_add x ≡ true → allows_delta y t → agree t x u y
+delta-agrees (Write b s) y t u add h = let bad : false ≡ true = add in cc
+delta-agrees (Add m) (Write b s) t u add h = h
+delta-agrees (Add m) (Add m') t u add h = tt
 
 -- agreement, from what a new choice asks of a live one
 allows-agree : (x y : Update) (t u : TxId) → allows x u y → ((s : List TxId) (b : Item) → x ≡ Write b s → In u s → is_add y ≡ true) → agree t x u y
@@ -40,53 +47,6 @@ agree-sym (Write b s) (Write b' s') t u h = h
 agree-sym (Write b s) (Add m) t u h = h
 agree-sym (Add m) (Write b s) t u h = h
 agree-sym (Add m) (Add m') t u h = tt
-
--- what is chosen stays chosen
-pub votes_tail : (a : ℕ) (i : Place) (k : Ballot) (t : TxId) (x : Mark) (old es : List Entry) → IsTail old es →
-    mark_of t (votes (facts_of a old) i k) ≡ Some x → mark_of t (votes (facts_of a es) i k) ≡ Some x
-votes_tail a i k t x old [] tail h = subst (λ y. mark_of t (votes (facts_of a y) i k) ≡ Some x) tail h
-votes_tail a i k t x old (e ∷ es) tail h =
-    elim tail [
-      | inl same ↦ subst (λ y. mark_of t (votes (facts_of a y) i k) ≡ Some x) same h
-      | inr rest ↦ votes_more a e es i k t x (votes_tail a i k t x old es rest h)
-    ]
-
-pub IsChosen-tail : (s : Setup) (i : Place) (k : Ballot) (t : TxId) (x : Mark) (old es : List Entry) → IsTail old es → IsChosen s old i k t x → IsChosen s es i k t x
-IsChosen-tail s i k t x old es tail h =
-    let more : count (λ a. gives (votes (facts_of a old) i k) t x) (centres_to s.centres) ≤ count (λ a. gives (votes (facts_of a es) i k) t x) (centres_to s.centres) =
-    count-le (λ a. gives (votes (facts_of a old) i k) t x) (λ a. gives (votes (facts_of a es) i k) t x) (centres_to s.centres)
-    (λ a listed g. (Decides-is_mark (mark_of t (votes (facts_of a es) i k)) x).1
-    (votes_tail a i k t x old es tail ((Decides-is_mark (mark_of t (votes (facts_of a old) i k)) x).0 g))) in
-    omega arith
-
-pub IsAborted-tail : (s : Setup) (t : TxId) (old es : List Entry) → IsTail old es → IsAborted s old t → IsAborted s es t
-IsAborted-tail s t old es tail h = (h.0, h.1, IsChoice-tail h.0 old es tail h.2, h.3, IsChosen-tail s (spot h.0) h.1 t Reject old es tail h.4)
-
--- what is void is aborted
-void-cases : (f : ReducedFact) (fs : List ReducedFact) (t : TxId) → void (f ∷ fs) t ≡ true → (f ≡ Heard t Abort) ⊎ (void fs t ≡ true)
-void-cases (Booted e) fs t h = inr h
-void-cases (Promised key low high l) fs t h = inr h
-void-cases (Voted j l marks) fs t h = inr h
-void-cases (Adopted key version base deltas) fs t h = inr h
-void-cases (Heard u (Commit cs)) fs t h = inr h
-void-cases (Heard u Abort) fs t h =
-    elim (or_cases (tx_eq u t) (void fs t) h) [ inl e ↦ inl (ap (λ z. Heard z Abort) ((Decides-tx u t).0 e)) | inr e ↦ inr e ]
-
-pub void_aborted : (s : Setup) (a : ℕ) (t : TxId) (es : List Entry) → Allowed s es → void (facts_of a es) t ≡ true → IsAborted s es t
-void_aborted s a t [] allowed h = absurd (cc)
-void_aborted s a t (Begun b u cs ∷ es) allowed h =
-    IsAborted-tail s t es (Begun b u cs ∷ es) (inr (IsTail-same es)) (void_aborted s a t es allowed.0 h)
-void_aborted s a t (Valued b j l sent ∷ es) allowed h =
-    IsAborted-tail s t es (Valued b j l sent ∷ es) (inr (IsTail-same es)) (void_aborted s a t es allowed.0 h)
-void_aborted s a t (Happened b f ∷ es) allowed h =
-    IsAborted-tail s t es (Happened b f ∷ es) (inr (IsTail-same es))
-    (elim (cases_Bool (b == a)) [
-      | inl e ↦ elim (void-cases f (facts_of a es) t (rw e at h)) [
-        | inl here ↦ subst (MayHappen s es b) here allowed.1
-        | inr there ↦ void_aborted s a t es allowed.0 there
-      ]
-      | inr e ↦ void_aborted s a t es allowed.0 (rw e at h)
-    ])
 
 pub voted_same : (i : Place) (xs ys : List (TxId × Mark)) → Voted i fast xs ≡ Voted i fast ys → xs ≡ ys
 voted_same i xs ys h = cc
@@ -138,20 +98,12 @@ module _ (s : Setup) (all : List Entry) (legal : Allowed s all) (i : Place) wher
     ];
   }
 
-  -- what is not aborted is not void
-  pub not_void : (old : List Entry) (a : ℕ) (t : TxId) → IsTail old all → Allowed s old → (IsAborted s all t → ⊥) → void (facts_of a old) t ≡ false
-  not_void old a t tail allowed free =
-      elim (cases_Bool (void (facts_of a old) t)) [
-        | inl e ↦ absurd (free (IsAborted-tail s t old all tail (void_aborted s a t old allowed e)))
-        | inr e ↦ e
-      ]
-
   -- what fits may stand
-  fit_stands : (weight share : ℕ) (old : List Entry) (a : ℕ) (accepted : Choice → Type 0) (t : TxId) (c : Choice) → IsTail old all → Allowed s old →
-      IsFit s weight share old (facts_of a old) accepted i t c →
-      (c.tx ≡ t) × IsChoice all c × ((spot c) ≡ i) × ((d : Choice) → accepted d → (IsAborted s all d.tx → ⊥) → allows c.update d.tx d.update)
-  fit_stands weight share old a accepted t c tail allowed fit =
-      (fit.own, IsChoice-tail c old all tail fit.begun, fit.here, (λ d g free. fit.clear.chosen d g (not_void old a d.tx tail allowed free)))
+  fit_stands : (weight share : ℕ) (old : List Entry) (a : ℕ) (accepted counted : Choice → Type 0) (t : TxId) (c : Choice) → IsTail old all → Allowed s old →
+      IsFit s weight share old (facts_of a old) accepted counted i t c →
+      (c.tx ≡ t) × IsChoice all c × ((spot c) ≡ i) × ((d : Choice) → accepted d → IsChoice all d → (spot d) ≡ i → (IsAborted s all d.tx → ⊥) → allows c.update d.tx d.update)
+  fit_stands weight share old a accepted counted t c tail allowed fit =
+      (fit.own, IsChoice-tail c old all tail fit.begun, fit.here, (λ d g choice here free. fit.clear.chosen d g (may_count s all legal old tail i d choice here free)))
 
   -- what a leader adds
   pub mark_of-cons : (t u : TxId) (x y : Mark) (ps : List (TxId × Mark)) → mark_of u ((t, x) ∷ ps) ≡ Some y → (mark_of u ps ≡ Some y) ⊎ ((u ≡ t) × (y ≡ x))
@@ -165,7 +117,11 @@ module _ (s : Setup) (all : List Entry) (legal : Allowed s all) (i : Place) wher
       MayAdd s old z i ps t x → Sound ps → Sound ((t, x) ∷ ps)
   Sound-added old tail allowed z ps t x may h =
       Sound-add ps ((t, x) ∷ ps) t x (λ u y g. mark_of-cons t u x y ps g)
-      (λ c is. fit_stands 1 1 old z (IsAcceptedIn ps) t c tail allowed (may.fits c is)) h
+      (λ c is.
+      let stands : (c.tx ≡ t) × IsChoice all c × ((spot c) ≡ i) × ((d : Choice) → IsAcceptedIn ps d → IsChoice all d → (spot d) ≡ i → (IsAborted s all d.tx → ⊥) → allows c.update d.tx d.update) =
+      fit_stands 1 1 old z (IsAcceptedIn ps) (IsLive (facts_of z old) i ps) t c tail allowed (may.fits c is) in
+      (stands.0, stands.1, stands.2, (λ d g free. stands.3 d g (h.choices d.tx d g).1 (h.choices d.tx d g).2 free)))
+      h
 
   -- what one more vote at the fast ballot adds
   pub new_vote : (a : ℕ) (f : ReducedFact) (old : List Entry) (marks : List (TxId × Mark)) → f ≡ Voted i fast marks → (vote : IsFastVote s old (facts_of a old) i marks) →
@@ -189,9 +145,9 @@ module _ (s : Setup) (all : List Entry) (legal : Allowed s all) (i : Place) wher
       Sound-add (votes (facts_of a old) i fast) (votes (f ∷ facts_of a old) i fast) vote.tx vote.mark
       (λ u y g. new_vote a f old marks is vote u y g)
       (λ c new.
-      let stands : (c.tx ≡ vote.tx) × IsChoice all c × ((spot c) ≡ i) × ((d : Choice) → IsAcceptedVote (facts_of a old) i d → (IsAborted s all d.tx → ⊥) → allows c.update d.tx d.update) =
-      fit_stands s.parts (s.fast + s.parts - s.centres) old a (IsAcceptedVote (facts_of a old) i) vote.tx c tail allowed (vote.fits c new) in
-      (stands.0, stands.1, stands.2, (λ d g free. stands.3 d (fast, g) free)))
+      let stands : (c.tx ≡ vote.tx) × IsChoice all c × ((spot c) ≡ i) × ((d : Choice) → IsAcceptedVote (facts_of a old) i d → IsChoice all d → (spot d) ≡ i → (IsAborted s all d.tx → ⊥) → allows c.update d.tx d.update) =
+      fit_stands s.parts (s.fast + s.parts - s.centres) old a (IsAcceptedVote (facts_of a old) i) (IsAcceptedVote (facts_of a old) i) vote.tx c tail allowed (vote.fits c new) in
+      (stands.0, stands.1, stands.2, (λ d g free. stands.3 d (fast, g) (h.choices d.tx d g).1 (h.choices d.tx d g).2 free)))
       h
 
   -- the votes of a centre at the fast ballot
@@ -212,24 +168,33 @@ module _ (s : Setup) (all : List Entry) (legal : Allowed s all) (i : Place) wher
         | inr e ↦ rw e before
       ]
 
-  -- what a report gives at the fast ballot, a centre voted there
-  pub fast_voter : (old : List Entry) (q : ℕ → Bool) (m : Ballot) (r : ReducedReport) → In r (reports_of old i m (members q (centres_to s.centres))) →
-      top (reports_of old i m (members q (centres_to s.centres))) ≡ fast →
-      (a : ℕ) × ((t : TxId) (x : Mark) → gives r.marks t x ≡ true → mark_of t (votes (facts_of a old) i fast) ≡ Some x)
-  fast_voter old q m r listed is =
-      let member : (a : ℕ) × (q a ≡ true) × (report (facts_of a old) i m ≡ r) = reports-of old i m q r (centres_to s.centres) listed in
-      let ballot : voted_below (facts_of member.0 old) i m ≡ fast =
-      ap (λ z. z.ballot) member.2 ∙ all_fast r (reports_of old i m (members q (centres_to s.centres))) listed is in
-      let marks : r.marks ≡ votes (facts_of member.0 old) i fast =
-      sym (ap (λ z. z.marks) member.2) ∙ ap (λ z. votes (facts_of member.0 old) i z) ballot in
-      (member.0, (λ t x g. subst (λ z. mark_of t z ≡ Some x) marks ((Decides-is_mark (mark_of t r.marks) x).0 g)))
+  -- what a report gives at the fast ballot, a centre shows there, and so it voted there
+  pub fast_shown : (at_time : ℕ → List Entry) (q : ℕ → Bool) (m : Ballot) (r : ReducedReport) → In r (reports_of at_time i m (members q (centres_to s.centres))) →
+      top (reports_of at_time i m (members q (centres_to s.centres))) ≡ fast →
+      (a : ℕ) × (q a ≡ true) × (r.marks ≡ shown (facts_of a (at_time a)) i fast)
+  fast_shown at_time q m r listed is =
+      let member : (a : ℕ) × (q a ≡ true) × (report (facts_of a (at_time a)) i m ≡ r) = reports-of at_time i m q r (centres_to s.centres) listed in
+      let ballot : voted_below (facts_of member.0 (at_time member.0)) i m ≡ fast =
+      ap (λ (z : ReducedReport). z.ballot) member.2 ∙ all_fast r (reports_of at_time i m (members q (centres_to s.centres))) listed is in
+      (member.0, member.1, sym (ap (λ (z : ReducedReport). z.marks) member.2) ∙ ap (λ z. shown (facts_of member.0 (at_time member.0)) i z) ballot)
+
+  pub fast_voter : (at_time : ℕ → List Entry) (q : ℕ → Bool) (m : Ballot) (r : ReducedReport) → In r (reports_of at_time i m (members q (centres_to s.centres))) →
+      top (reports_of at_time i m (members q (centres_to s.centres))) ≡ fast →
+      (a : ℕ) × (q a ≡ true) × ((t : TxId) (x : Mark) → gives r.marks t x ≡ true → mark_of t (votes (facts_of a (at_time a)) i fast) ≡ Some x)
+  fast_voter at_time q m r listed is =
+      let member : (a : ℕ) × (q a ≡ true) × (r.marks ≡ shown (facts_of a (at_time a)) i fast) = fast_shown at_time q m r listed is in (
+        member.0,
+        member.1,
+        (λ t x g. shown-voted (facts_of member.0 (at_time member.0)) i t x (votes (facts_of member.0 (at_time member.0)) i fast)
+            (subst (λ z. mark_of t z ≡ Some x) member.2 ((Decides-is_mark (mark_of t r.marks) x).0 g))),
+      )
 
   -- the forced marks of the fast ballot
   Sound-fast : (sizes : IsSetup s) (old : List Entry) → IsTail old all → Allowed s old → (z : ℕ) (m : Ballot) (marks : List (TxId × Mark)) (first : IsFirst s old z i m marks) →
-      top (reports_of old i m (members first.quorum (centres_to s.centres))) ≡ fast → Sound first.base
+      top (reports_for s old z i m marks first) ≡ fast → Sound first.base
   Sound-fast sizes old tail allowed z m marks first is =
-      let rs : List ReducedReport = reports_of old i m (members first.quorum (centres_to s.centres)) in
-      let many : length rs ≡ count first.quorum (centres_to s.centres) = length-reports old i m first.quorum (centres_to s.centres) in
+      let rs : List ReducedReport = reports_for s old z i m marks first in
+      let many : length rs ≡ count first.quorum (centres_to s.centres) = length-reports first.at_time i m first.quorum (centres_to s.centres) in
       let holders : (t : TxId) (c : Choice) → mark_of t first.base ≡ Some (Accept c) → s.fast + length rs ≤ s.centres + count (λ r. gives r.marks t (Accept c)) rs =
       λ t c g. elim (first.forced_only t (Accept c) g) [
         | inl by_count ↦ by_count.1
@@ -240,17 +205,17 @@ module _ (s : Setup) (all : List Entry) (legal : Allowed s all) (i : Place) wher
             let enough : s.fast + length rs ≤ s.centres + count (λ r. gives r.marks t (Accept c)) rs = holders t c g in
             let some : (r : ReducedReport) × In r rs × (gives r.marks t (Accept c) ≡ true) =
             some_counted (λ r. gives r.marks t (Accept c)) rs (omega (arith, first.enough, sizes.two_fast, sizes.fast_within)) in
-            let voter : (a : ℕ) × ((t : TxId) (x : Mark) → gives some.0.marks t x ≡ true → mark_of t (votes (facts_of a old) i fast) ≡ Some x) =
-            fast_voter old first.quorum m some.0 some.1 is in
-            (Sound-votes voter.0 old tail).choices t c (voter.1 t (Accept c) some.2);
+            let voter : (a : ℕ) × (first.quorum a ≡ true) × ((t : TxId) (x : Mark) → gives some.0.marks t x ≡ true → mark_of t (votes (facts_of a (first.at_time a)) i fast) ≡ Some x) =
+            fast_voter first.at_time first.quorum m some.0 some.1 is in
+            (Sound-votes voter.0 (first.at_time voter.0) (IsTail-trans (first.at_time voter.0) old all (first.before voter.0 voter.1) tail)).choices t c (voter.2 t (Accept c) some.2);
         agreed = λ c d g k other free_c free_d.
             let enough_c : s.fast + length rs ≤ s.centres + count (λ r. gives r.marks c.tx (Accept c)) rs = holders c.tx c g in
             let enough_d : s.fast + length rs ≤ s.centres + count (λ r. gives r.marks d.tx (Accept d)) rs = holders d.tx d k in
             let some : (r : ReducedReport) × In r rs × (gives r.marks c.tx (Accept c) ≡ true) × (gives r.marks d.tx (Accept d) ≡ true) =
             some_common (λ r. gives r.marks c.tx (Accept c)) (λ r. gives r.marks d.tx (Accept d)) rs (omega (arith, first.enough, sizes.two_fast)) in
-            let voter : (a : ℕ) × ((t : TxId) (x : Mark) → gives some.0.marks t x ≡ true → mark_of t (votes (facts_of a old) i fast) ≡ Some x) =
-            fast_voter old first.quorum m some.0 some.1 is in
-            (Sound-votes voter.0 old tail).agreed c d (voter.1 c.tx (Accept c) some.2) (voter.1 d.tx (Accept d) some.3) other free_c free_d;
+            let voter : (a : ℕ) × (first.quorum a ≡ true) × ((t : TxId) (x : Mark) → gives some.0.marks t x ≡ true → mark_of t (votes (facts_of a (first.at_time a)) i fast) ≡ Some x) =
+            fast_voter first.at_time first.quorum m some.0 some.1 is in
+            (Sound-votes voter.0 (first.at_time voter.0) (IsTail-trans (first.at_time voter.0) old all (first.before voter.0 voter.1) tail)).agreed c d (voter.2 c.tx (Accept c) some.2) (voter.2 d.tx (Accept d) some.3) other free_c free_d;
       }
 
   pub Sound-structures : IsSetup s → (m : Ballot) (marks : List (TxId × Mark)) → WasSent all i m marks → Sound marks
@@ -264,7 +229,7 @@ module _ (s : Setup) (all : List Entry) (legal : Allowed s all) (i : Place) wher
       elim (Below-cases fast k) [
         | inl classic ↦
             let b : IsBacked all (facts_of a all) i k = backed s all a i k classic legal (HasVoted-mark (facts_of a all) i k c.tx (Accept c) g) in
-            (Sound-structures sizes k b.marks b.sent).agreed c d (sym (b.same c.tx) ∙ g) (sym (b.same d.tx) ∙ h) other free_c free_d
+            (Sound-structures sizes k b.marks b.sent).agreed c d (b.within c.tx (Accept c) g) (b.within d.tx (Accept d) h) other free_c free_d
         | inr rest ↦ elim rest [
           | inl same ↦ (Sound-votes a all (IsTail-same all)).agreed c d
               (subst (λ z. mark_of c.tx (votes (facts_of a all) i z) ≡ Some (Accept c)) (sym same) g)
@@ -272,6 +237,88 @@ module _ (s : Setup) (all : List Entry) (legal : Allowed s all) (i : Place) wher
           | inr below ↦ absurd (Below-fast k below)
         ]
       ]
+
+  -- an accepted choice of a structure agrees with what is chosen below it
+  module _ (sizes : IsSetup s) (k : Ballot) (c : Choice) (chosen : IsChosen s all i k c.tx (Accept c)) (free_c : IsAborted s all c.tx → ⊥) where
+    abbrev Among : Ballot → List (TxId × Mark) → Type 0
+    Among m marks = Below k m → (d : Choice) → IsAcceptedIn marks d → (c.tx ≡ d.tx → ⊥) → (IsAborted s all d.tx → ⊥) → Agrees c d
+
+    is_choice : IsChoice all c × ((spot c) ≡ i)
+    is_choice =
+        let some : (a : ℕ) × In a (centres_to s.centres) × (gives (votes (facts_of a all) i k) c.tx (Accept c) ≡ true) =
+        some_counted (λ a. gives (votes (facts_of a all) i k) c.tx (Accept c)) (centres_to s.centres) (omega (arith, size-classic s sizes k, sizes.two_classic)) in
+        let vote : mark_of c.tx (votes (facts_of some.0 all) i k) ≡ Some (Accept c) = (Decides-is_mark (mark_of c.tx (votes (facts_of some.0 all) i k)) (Accept c)).0 some.2 in
+        elim (Below-cases fast k) [
+          | inl classic ↦
+              let b : IsBacked all (facts_of some.0 all) i k = backed s all some.0 i k classic legal (HasVoted-mark (facts_of some.0 all) i k c.tx (Accept c) vote) in
+              (let r : (c.tx ≡ c.tx) × IsChoice all c × ((spot c) ≡ i) = (Sound-structures sizes k b.marks b.sent).choices c.tx c (b.within c.tx (Accept c) vote) in (r.1, r.2))
+          | inr rest ↦ elim rest [
+            | inl same ↦ (let r : (c.tx ≡ c.tx) × IsChoice all c × ((spot c) ≡ i) = (Sound-votes some.0 all (IsTail-same all)).choices c.tx c (subst (λ z. mark_of c.tx (votes (facts_of some.0 all) i z) ≡ Some (Accept c)) (sym same) vote) in (r.1, r.2))
+            | inr below ↦ absurd (Below-fast k below)
+          ]
+        ]
+
+    -- what is chosen below stands in the last structure of the greatest reported ballot, or below it
+    Among-part : (old : List Entry) → IsTail old all → (allowed : Allowed s old) (z : ℕ) (m : Ballot) (marks : List (TxId × Mark)) (first : IsFirst s old z i m marks) →
+        Below fast (top (reports_for s old z i m marks first)) → (last : List (TxId × Mark)) →
+        last_sent old i (top (reports_for s old z i m marks first)) ≡ Some last → Extends last first.base → Among (top (reports_for s old z i m marks first)) last → Among m first.base
+    Among-part old tail allowed z m marks first classic last is extends known below d g other free_d =
+        let l : Ballot = top (reports_for s old z i m marks first) in
+        elim (Below-cases k (top (reports_for s old z i m marks first))) [
+          | inl under ↦ known under d (extends d.tx (Accept d) g) other free_d
+          | inr rest ↦
+              let there : k ≡ top (reports_for s old z i m marks first) =
+              elim rest [ inl same ↦ same | inr over ↦ absurd (chosen_not_over s sizes all legal i k c.tx (Accept c) chosen old z m marks tail allowed below first over) ] in
+              let stands : mark_of c.tx last ≡ Some (Accept c) = chosen_last s sizes all legal i k c.tx (Accept c) chosen old z m marks tail allowed below first classic there last is in
+              (Sound-structures sizes (top (reports_for s old z i m marks first)) last (sent_tail i (top (reports_for s old z i m marks first)) last old all tail
+              (last-sent old i (top (reports_for s old z i m marks first)) last is))).agreed c d stands (extends d.tx (Accept d) g) other free_c free_d
+        ]
+
+    Among-fast : (old : List Entry) → IsTail old all → Allowed s old → (z : ℕ) (m : Ballot) (marks : List (TxId × Mark)) (first : IsFirst s old z i m marks) →
+        top (reports_for s old z i m marks first) ≡ fast → Among m first.base
+    Among-fast old tail allowed z m marks first is below d g other free_d =
+        let met : (a : ℕ) × (mark_of c.tx (votes (facts_of a (first.at_time a)) i fast) ≡ Some (Accept c)) × (mark_of d.tx (votes (facts_of a (first.at_time a)) i fast) ≡ Some (Accept d)) × (first.quorum a ≡ true) =
+        fast_meet s sizes all legal i k c.tx (Accept c) chosen old z m marks tail allowed below first is d.tx (Accept d) g in
+        (Sound-votes met.0 (first.at_time met.0) (IsTail-trans (first.at_time met.0) old all (first.before met.0 met.3) tail)).agreed c d met.1 met.2 other free_c free_d
+
+    -- what a leader adds that has heard it
+    heard_agrees : (old : List Entry) → IsTail old all → Allowed s old → (z : ℕ) → HasHeard (facts_of z old) c.tx → (t : TxId) (x : Mark) (ps : List (TxId × Mark)) → MayAdd s old z i ps t x →
+        (d : Choice) → x ≡ Accept d → Agrees c d
+    heard_agrees old tail allowed z heard t x ps may d is =
+        let fit : IsFit s 1 1 old (facts_of z old) (IsAcceptedIn ps) (IsLive (facts_of z old) i ps) i t d = may.fits d is in
+        let held : current (facts_of z old) c.key ≡ c.version = subst (λ y. current (facts_of z old) y.key ≡ y.version) (sym is_choice.1) fit.held in
+        let done : Executes (facts_of z old) (spot c) c = heard_here s all legal old tail allowed z c is_choice.0 free_c heard held in
+        let executes : Executes (facts_of z old) i c = subst (λ y. Executes (facts_of z old) y c) is_choice.1 done in
+        let add : is_add c.update ≡ true = rw done.1 refl in
+        delta-agrees c.update d.update c.tx d.tx add (fit.clear.deltas c executes (may_count s all legal old tail i c is_choice.0 is_choice.1 free_c))
+
+    grown_agrees : (old : List Entry) → IsTail old all → Allowed s old → (z : ℕ) → HasHeard (facts_of z old) c.tx → (m : Ballot) (less : List (TxId × Mark)) (steps : List Step) (more : List (TxId × Mark)) →
+        Grown s old z i less steps more → Among m less → Among m more
+    grown_agrees old tail allowed z heard m less [] more g known below d h other free_d = subst (Among m) g known below d h other free_d
+    grown_agrees old tail allowed z heard m less (p ∷ ps) more g known below d h other free_d =
+        elim (mark_of-cons p.tx d.tx p.mark (Accept d) p.before (sym (g.2.same d.tx) ∙ h)) [
+          | inl before ↦ grown_agrees old tail allowed z heard m less ps p.before g.0 known below d before other free_d
+          | inr new ↦ heard_agrees old tail allowed z heard p.tx p.mark p.before g.1 d (sym new.1)
+        ]
+
+    Among-sent : (old : List Entry) → Allowed s old → (z : ℕ) (m : Ballot) (less more : List (TxId × Mark)) → IsTail (Valued z i m more ∷ old) all →
+        (steps : List Step) → Grown s old z i less steps more → Among m less → Among m more
+    Among-sent old allowed z m less more tail steps g known below d h other free_d =
+        elim (cases_heard (facts_of z old) c.tx) [
+          | inl heard ↦ grown_agrees old (IsTail-drop (Valued z i m more) old all tail) allowed z heard m less steps more g known below d h other free_d
+          | inr unheard ↦
+              elim (Grown-less s old z i less steps more g) [
+                | inl same ↦ known below d (rw same h) other free_d
+                | inr centre ↦
+                    let stands : mark_of c.tx more ≡ Some (Accept c) =
+                    (in_structures s sizes all legal i k m c.tx (Accept c) (Valued z i m more ∷ old) more chosen below tail (inl (refl, refl, refl))).0 (λ every. unheard (every z centre)) in
+                    (Sound-structures sizes m more (sent_tail i m more (Valued z i m more ∷ old) all tail (inl (refl, refl, refl)))).agreed c d stands h other free_c free_d
+              ]
+        ]
+
+    pub agrees_above : (m : Ballot) (marks : List (TxId × Mark)) → WasSent all i m marks → Among m marks
+    agrees_above m marks sent =
+        every_sent s all legal i Among Among-part Among-fast Among-sent all (IsTail-same all) m marks sent
 
   consistent_below : IsSetup s → (k l : Ballot) (c d : Choice) → Below k l → IsChosen s all i k c.tx (Accept c) → IsChosen s all i l d.tx (Accept d) →
       (c.tx ≡ d.tx → ⊥) → (IsAborted s all c.tx → ⊥) → (IsAborted s all d.tx → ⊥) → Agrees c d
@@ -282,8 +329,7 @@ module _ (s : Setup) (all : List Entry) (legal : Allowed s all) (i : Place) wher
       let vote : mark_of d.tx (votes (facts_of some.0 all) i l) ≡ Some (Accept d) = (Decides-is_mark (mark_of d.tx (votes (facts_of some.0 all) i l)) (Accept d)).0 some.2 in
       let b : IsBacked all (facts_of some.0 all) i l =
       backed s all some.0 i l (Below-classic k l below) legal (HasVoted-mark (facts_of some.0 all) i l d.tx (Accept d) vote) in
-      (Sound-structures sizes l b.marks b.sent).agreed c d
-      (in_structures s sizes all legal i k l c.tx (Accept c) b.marks g below b.sent) (sym (b.same d.tx) ∙ vote) other free_c free_d
+      agrees_above sizes k c g free_c l b.marks b.sent below d (b.within d.tx (Accept d) vote) other free_d
 
   pub consistent : IsSetup s → (k l : Ballot) (c d : Choice) → IsChosen s all i k c.tx (Accept c) → IsChosen s all i l d.tx (Accept d) →
       (c.tx ≡ d.tx → ⊥) → (IsAborted s all c.tx → ⊥) → (IsAborted s all d.tx → ⊥) → Agrees c d

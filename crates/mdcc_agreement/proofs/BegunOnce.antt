@@ -11,7 +11,7 @@ use Rattle.mdcc_option.specs.declared.items.Update.TheVariants.{Write, Add}
 use Rattle.mdcc_protocol.specs.Marks.{Amounts}
 use Rattle.mdcc_agreement.proofs.LedgersGrow.{IsTail-same}
 use Rattle.mdcc_agreement.proofs.Setups.{Setup}
-use Rattle.mdcc_agreement.proofs.ReducedFacts.{ReducedFact, Booted, Promised, Voted, Heard, Adopted, amounts_of, adds_at, executed_by, executed}
+use Rattle.mdcc_agreement.proofs.ReducedFacts.{ReducedFact, Booted, Floor, Promised, Voted, Heard, Adopted, amounts_of, adds_at, executed_by, executed}
 use Rattle.mdcc_agreement.proofs.ReducedLedger.{Entry, Happened, Begun, Valued, facts_of, WasBegun, IsChoice, IsTail, MayHappen, Meets, Allowed}
 use Rattle.mdcc_agreement.proofs.ReducedOptions.{spot, In, Place, place_eq}
 use Rattle.mdcc_agreement.proofs.TestsDecide.{Decides-key, Decides-place, same_place}
@@ -118,6 +118,7 @@ executed_by-adds : (s : Setup) (es : List Entry) → Allowed s es →
     ((old : List Entry) → IsTail old es → (a : ℕ) (i : Place) (p : TxId × Amounts) → In p (executed (facts_of a old) i) → HasAdd es p i) →
     (a : ℕ) (f : ReducedFact) → MayHappen s es a f → (i : Place) (p : TxId × Amounts) → In p (executed_by f i) → HasAdd es p i
 executed_by-adds s es allowed known a (Booted e) may i p h = absurd h
+executed_by-adds s es allowed known a (Floor origin era upto) may i p h = absurd h
 executed_by-adds s es allowed known a (Promised key low high l) may i p h = absurd h
 executed_by-adds s es allowed known a (Voted j l marks) may i p h = absurd h
 executed_by-adds s es allowed known a (Heard t Abort) may i p h = absurd h

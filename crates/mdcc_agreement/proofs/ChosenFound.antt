@@ -134,6 +134,7 @@ ballot_more : (es : List ledger.Entry) (e : ledger.Entry) (key : Key) (version :
 ballot_more es (ledger.Begun a t cs) key version k h = h
 ballot_more es (ledger.Valued a k' v b os) key version k h = h
 ballot_more es (ledger.Added a (Fact.Booted epoch)) key version k h = h
+ballot_more es (ledger.Added a (Fact.Floor centre epoch seq)) key version k h = h
 ballot_more es (ledger.Added a (Fact.Promised k' low high b)) key version k h = h
 ballot_more es (ledger.Added a (Fact.Heard t o)) key version k h = h
 ballot_more es (ledger.Added a (Fact.Adopted k' v item adds)) key version k h = h
@@ -146,6 +147,7 @@ ballot_more es (ledger.Added a (Fact.Voted k' v b os offered)) key version k h =
 ballot_now : (es : List ledger.Entry) (a : ℕ) (f : Fact) (i : Place) (k : Ballot) (fs : List Fact) → HasVoted (reduced_fact f ∷ facts_reduced fs) i k →
     In k (ledger.ballots_voted (ledger.Added a f ∷ es) i.key i.version) ⊎ HasVoted (facts_reduced fs) i k
 ballot_now es a (Fact.Booted epoch) i k fs h = inr h
+ballot_now es a (Fact.Floor centre epoch seq) i k fs h = inr h
 ballot_now es a (Fact.Promised k' low high b) i k fs h = inr h
 ballot_now es a (Fact.Heard t o) i k fs h = inr h
 ballot_now es a (Fact.Adopted k' v item adds) i k fs h = inr h

@@ -18,31 +18,36 @@ use Rattle.mdcc_ledger.specs.Ledger as ledger
 use Rattle.mdcc_agreement.proofs.BallotOrder.{Below-cases, Below-irrefl, Below-fast}
 use Rattle.mdcc_agreement.proofs.Ballots.{fast, Below}
 use Rattle.mdcc_agreement.proofs.StructuresExtend.{chain, backed, sent-last}
+use Rattle.mdcc_agreement.proofs.LedgersGrow.{Allowed-tail, sent_tail, shown-voted}
+use Rattle.mdcc_agreement.proofs.FloorsReduced.{report_marks}
+use Rattle.mdcc_agreement.proofs.HeldReduced.{AllFine}
 use Rattle.mdcc_agreement.proofs.ReportsCounted.{In-members, In-reports, length-reports, count-reports, top-there, top-most, Voices-in, Voices-out, reports-of}
 use Rattle.mdcc_agreement.proofs.Reduction.{setup_of, reduced, facts_same}
 use Rattle.mdcc_agreement.proofs.CentresCounted.{is_one_of, one_of-In, In-one_of, count-members, length-members}
 use Rattle.mdcc_agreement.proofs.OneMark.{same_if_between}
 use Rattle.mdcc_agreement.proofs.ForcedCounted.{first_mark-shows, first_mark-there}
 use Rattle.mdcc_agreement.proofs.Setups.{Setup, IsSetup, centres_to, count}
-use Rattle.mdcc_agreement.proofs.ReducedFacts.{greater, votes, ReducedReport, report}
+use Rattle.mdcc_agreement.proofs.ReducedFacts.{greater, votes, voted_below, ReducedReport, report}
 use Rattle.mdcc_agreement.proofs.ReducedForced.{top, IsForced}
-use Rattle.mdcc_agreement.proofs.ReducedLedger.{Entry, facts_of, reports_of, members, last_sent, IsBacked, Allowed}
+use Rattle.mdcc_agreement.proofs.ReducedLedger.{Entry, IsTail, WasSent, facts_of, reports_of, members, last_sent, IsBacked, Allowed}
 use Rattle.mdcc_agreement.proofs.ReducedOptions.{In, Place, mark_of, gives}
-use Rattle.mdcc_agreement.proofs.TestsDecide.{Decides-ballot}
-use Rattle.mdcc_agreement.proofs.ViewsReduced.{report_ballot, report_marks}
+use Rattle.mdcc_agreement.proofs.ViewsReduced.{report_ballot}
 use Rattle.mdcc_agreement.proofs.VotesOfFacts.{greater-left, greater-right, greater-cases, HasVoted-mark}
+use Rattle.mdcc_agreement.proofs.TestsDecide.{Decides-ballot}
 
--- votes of one classic ballot agree
-pub votes_agree : (s : Setup) (es : List Entry) → Allowed s es → (i : Place) (k : Ballot) → Below fast k → (a b : ℕ) (t : TxId) (x y : Mark) →
-    mark_of t (votes (facts_of a es) i k) ≡ Some x → mark_of t (votes (facts_of b es) i k) ≡ Some y → x ≡ y
-votes_agree s es allowed i k classic a b t x y g h =
-    let one : IsBacked es (facts_of a es) i k = backed s es a i k classic allowed (HasVoted-mark (facts_of a es) i k t x g) in
-    let two : IsBacked es (facts_of b es) i k = backed s es b i k classic allowed (HasVoted-mark (facts_of b es) i k t y h) in
+-- votes of one classic ballot agree, as they were at two moments
+pub votes_agree : (s : Setup) (es : List Entry) → Allowed s es → (i : Place) (k : Ballot) → Below fast k → (old older : List Entry) → IsTail old es → IsTail older es → (a b : ℕ) (t : TxId) (x y : Mark) →
+    mark_of t (votes (facts_of a old) i k) ≡ Some x → mark_of t (votes (facts_of b older) i k) ≡ Some y → x ≡ y
+votes_agree s es allowed i k classic old older tail tail' a b t x y g h =
+    let one : IsBacked old (facts_of a old) i k = backed s old a i k classic (Allowed-tail s old es tail allowed) (HasVoted-mark (facts_of a old) i k t x g) in
+    let two : IsBacked older (facts_of b older) i k = backed s older b i k classic (Allowed-tail s older es tail' allowed) (HasVoted-mark (facts_of b older) i k t y h) in
+    let sent : WasSent es i k one.marks = sent_tail i k one.marks old es tail one.sent in
+    let sent' : WasSent es i k two.marks = sent_tail i k two.marks older es tail' two.sent in
     elim (cases_Option (last_sent es i k)) [
-      | inl none ↦ absurd (sent-last es i k one.marks one.sent none)
+      | inl none ↦ absurd (sent-last es i k one.marks sent none)
       | inr last ↦
-          let first : mark_of t last.0 ≡ Some x = chain s es i k last.0 one.marks allowed last.1 one.sent t x (sym (one.same t) ∙ g) in
-          let second : mark_of t last.0 ≡ Some y = chain s es i k last.0 two.marks allowed last.1 two.sent t y (sym (two.same t) ∙ h) in
+          let first : mark_of t last.0 ≡ Some x = chain s es i k last.0 one.marks allowed last.1 sent t x (one.within t x g) in
+          let second : mark_of t last.0 ≡ Some y = chain s es i k last.0 two.marks allowed last.1 sent' t y (two.within t y h) in
           cc
     ]
 
@@ -90,27 +95,31 @@ filter-In p r (q ∷ rs) h e =
 
 module _ (cluster : Cluster) (es : List ledger.Entry) (allowed : Allowed (setup_of cluster) (reduced es)) (sizes : IsSetup (setup_of cluster))
     (i : Place) (m : Ballot) (above_fast : is_fast m ≡ false) (centres : List ℕ) (distinct : are_distinct centres ≡ true)
-    (within : (a : ℕ) → In a centres → In a (centres_to cluster.quorums.centres)) (many : cluster.quorums.classic ≤ length centres) where
-  abbrev told : ℕ → Report
-  told a = full.report_of a (ledger.facts_of es a) i.key i.version m
+    (within : (a : ℕ) → In a centres → In a (centres_to cluster.quorums.centres)) (many : cluster.quorums.classic ≤ length centres)
+    (earlier : ℕ → List ledger.Entry) (before : (a : ℕ) → IsTail (reduced (earlier a)) (reduced es)) (fine : (a : ℕ) → AllFine (ledger.facts_of (earlier a) a)) where
+  abbrev pub at_time : ℕ → List Entry
+  at_time a = reduced (earlier a)
+
+  abbrev pub told : ℕ → Report
+  told a = full.report_of a (ledger.facts_of (earlier a) a) i.key i.version m
 
   abbrev reduced_told : ℕ → ReducedReport
-  reduced_told a = report (facts_of a (reduced es)) i m
+  reduced_told a = report (facts_of a (reduced (earlier a))) i m
 
   told_ballot : (a : ℕ) → (reduced_told a).ballot ≡ (told a).ballot
-  told_ballot a = ap (λ fs. (report fs i m).ballot) (facts_same a es) ∙ report_ballot a a (ledger.facts_of es a) i m
+  told_ballot a = ap (λ fs. (report fs i m).ballot) (facts_same a (earlier a)) ∙ report_ballot a a (ledger.facts_of (earlier a) a) i m
 
   told_marks : (a : ℕ) (t : TxId) → mark_of t (reduced_told a).marks ≡ value_of (told a).votes t
-  told_marks a t = ap (λ fs. mark_of t (report fs i m).marks) (facts_same a es) ∙ report_marks a (ledger.facts_of es a) i m t above_fast
+  told_marks a t = ap (λ fs. mark_of t (report fs i m).marks) (facts_same a (earlier a)) ∙ report_marks a (ledger.facts_of (earlier a) a) (fine a) i m t above_fast
 
-  abbrev all_told : List ℕ → List Report
+  abbrev pub all_told : List ℕ → List Report
   all_told cs = map told cs
 
   abbrev pub chosen_set : ℕ → Bool
   chosen_set a = is_one_of centres a
 
   abbrev reduced_reports : List ReducedReport
-  reduced_reports = reports_of (reduced es) i m (members chosen_set (centres_to cluster.quorums.centres))
+  reduced_reports = reports_of at_time i m (members chosen_set (centres_to cluster.quorums.centres))
 
   told_from : (cs : List ℕ) (r : Report) → In r (all_told cs) → (a : ℕ) × In a cs × (told a ≡ r)
   told_from [] r h = absurd h
@@ -122,7 +131,7 @@ module _ (cluster : Cluster) (es : List ledger.Entry) (allowed : Allowed (setup_
   told_In (c ∷ cs) a h = elim h [ inl here ↦ inl (ap told here) | inr there ↦ inr (told_In cs a there) ]
 
   reduced_In : (a : ℕ) → In a centres → In (reduced_told a) reduced_reports
-  reduced_In a h = In-reports (reduced es) i m a (members chosen_set (centres_to cluster.quorums.centres))
+  reduced_In a h = In-reports at_time i m a (members chosen_set (centres_to cluster.quorums.centres))
       (In-members chosen_set a (centres_to cluster.quorums.centres) (within a h) (In-one_of a centres h))
 
   pub same_top : top reduced_reports ≡ ballot_reported (all_told centres)
@@ -135,7 +144,7 @@ module _ (cluster : Cluster) (es : List ledger.Entry) (allowed : Allowed (setup_
             let ballot : (reduced_told a.0).ballot ≡ ballot_reported (all_told centres) = told_ballot a.0 ∙ ap (λ z. z.ballot) a.2 ∙ there.2 in
             top-most (reduced_told a.0) reduced_reports (reduced_In a.0 a.1) (subst (Below (top reduced_reports)) (sym ballot) under)
       ])
-      (λ over. elim (top-there (reduced es) i m chosen_set (top reduced_reports) (centres_to cluster.quorums.centres) refl) [
+      (λ over. elim (top-there at_time i m chosen_set (top reduced_reports) (centres_to cluster.quorums.centres) refl) [
         | inl is_fast ↦ Below-fast (ballot_reported (all_told centres)) (subst (Below (ballot_reported (all_told centres))) is_fast over)
         | inr there ↦
             let below : Below (told there.0).ballot (top reduced_reports) =
@@ -145,7 +154,7 @@ module _ (cluster : Cluster) (es : List ledger.Entry) (allowed : Allowed (setup_
       ])
 
   same_length : length reduced_reports ≡ length centres
-  same_length = length-reports (reduced es) i m chosen_set (centres_to cluster.quorums.centres) ∙ length-members cluster.quorums.centres centres distinct within
+  same_length = length-reports at_time i m chosen_set (centres_to cluster.quorums.centres) ∙ length-members cluster.quorums.centres centres distinct within
 
   told_length : (cs : List ℕ) → length (all_told cs) ≡ length cs
   told_length [] = refl
@@ -161,7 +170,7 @@ module _ (cluster : Cluster) (es : List ledger.Entry) (allowed : Allowed (setup_
 
   same_count : (t : TxId) (x : Mark) → count (λ r. gives r.marks t x) reduced_reports ≡ reports_with (all_told centres) t x
   same_count t x =
-      count-reports (reduced es) i m chosen_set t x (centres_to cluster.quorums.centres)
+      count-reports at_time i m chosen_set t x (centres_to cluster.quorums.centres)
       ∙ count-members cluster.quorums.centres (λ a. gives (reduced_told a).marks t x) centres distinct within
       ∙ sym (told_count t x centres)
 
@@ -187,7 +196,7 @@ module _ (cluster : Cluster) (es : List ledger.Entry) (allowed : Allowed (setup_
               | inr e ↦ e
             ] in
             let voice : (r : ReducedReport) × In r reduced_reports × (r.ballot ≡ top reduced_reports) × (mark_of t r.marks ≡ Some x) = Voices-out (top reduced_reports) t x reduced_reports by_union.1 in
-            let a : (b : ℕ) × (chosen_set b ≡ true) × (reduced_told b ≡ voice.0) = reports-of (reduced es) i m chosen_set voice.0 (centres_to cluster.quorums.centres) voice.1 in
+            let a : (b : ℕ) × (chosen_set b ≡ true) × (reduced_told b ≡ voice.0) = reports-of at_time i m chosen_set voice.0 (centres_to cluster.quorums.centres) voice.1 in
             let ballot : (reduced_told a.0).ballot ≡ top reduced_reports = ap (λ z. z.ballot) a.2 ∙ voice.2 in
             let given : mark_of t (reduced_told a.0).marks ≡ Some x = ap (λ z. mark_of t z.marks) a.2 ∙ voice.3 in
             let listed : In (told a.0) (filter at_top (all_told centres)) = filter-In at_top (told a.0) (all_told centres) (told_In centres a.0 (one_of-In a.0 centres a.1))
@@ -199,9 +208,13 @@ module _ (cluster : Cluster) (es : List ledger.Entry) (allowed : Allowed (setup_
             let ballot_b : (reduced_told b.0).ballot ≡ top reduced_reports =
             told_ballot b.0 ∙ ap (λ z. z.ballot) b.2 ∙ (Decides-ballot other.0.ballot (ballot_reported (all_told centres))).0 passed.1 ∙ sym same_top in
             let given_b : mark_of t (reduced_told b.0).marks ≡ Some some.0 = told_marks b.0 t ∙ ap (λ z. value_of z.votes t) b.2 ∙ other.2 in
-            let same : x ≡ some.0 = votes_agree (setup_of cluster) (reduced es) allowed i (top reduced_reports) by_union.0 a.0 b.0 t x some.0
-            (subst (λ k. mark_of t (votes (facts_of a.0 (reduced es)) i k) ≡ Some x) ballot given)
-            (subst (λ k. mark_of t (votes (facts_of b.0 (reduced es)) i k) ≡ Some some.0) ballot_b given_b) in
+            let voted : mark_of t (votes (facts_of a.0 (at_time a.0)) i (voted_below (facts_of a.0 (at_time a.0)) i m)) ≡ Some x =
+            shown-voted (facts_of a.0 (at_time a.0)) i t x (votes (facts_of a.0 (at_time a.0)) i (voted_below (facts_of a.0 (at_time a.0)) i m)) given in
+            let voted_b : mark_of t (votes (facts_of b.0 (at_time b.0)) i (voted_below (facts_of b.0 (at_time b.0)) i m)) ≡ Some some.0 =
+            shown-voted (facts_of b.0 (at_time b.0)) i t some.0 (votes (facts_of b.0 (at_time b.0)) i (voted_below (facts_of b.0 (at_time b.0)) i m)) given_b in
+            let same : x ≡ some.0 = votes_agree (setup_of cluster) (reduced es) allowed i (top reduced_reports) by_union.0 (at_time a.0) (at_time b.0) (before a.0) (before b.0) a.0 b.0 t x some.0
+            (subst (λ k. mark_of t (votes (facts_of a.0 (at_time a.0)) i k) ≡ Some x) ballot voted)
+            (subst (λ k. mark_of t (votes (facts_of b.0 (at_time b.0)) i k) ≡ Some some.0) ballot_b voted_b) in
             rw classic (value_of-reported (filter at_top (all_told centres)) t ∙ some.1 ∙ ap Some (sym same))
       ]
 

@@ -28,6 +28,7 @@ abbrev pub FineFact : Fact → Type 0
 FineFact (Fact.Heard tx (Commit cs)) = IsFine cs
 FineFact (Fact.Heard tx Abort) = Unit {0}
 FineFact (Fact.Booted epoch) = Unit {0}
+FineFact (Fact.Floor centre epoch seq) = Unit {0}
 FineFact (Fact.Promised key low high ballot) = Unit {0}
 FineFact (Fact.Voted key version ballot options offered) = Unit {0}
 FineFact (Fact.Adopted key version item adds) = Unit {0}
@@ -40,6 +41,7 @@ version_same : (f : Fact) (key : Key) → FineFact f → current_by (reduced_fac
 version_same (Fact.Heard tx (Commit cs)) key h = sym (versions_raised key cs h)
 version_same (Fact.Heard tx Abort) key h = refl
 version_same (Fact.Booted epoch) key h = refl
+version_same (Fact.Floor centre epoch seq) key h = refl
 version_same (Fact.Promised k low high ballot) key h = refl
 version_same (Fact.Voted k version ballot options offered) key h = refl
 version_same (Fact.Adopted k version item adds) key h = refl
@@ -58,6 +60,7 @@ base_fact (Fact.Heard tx (Commit cs)) key h some =
     )
 base_fact (Fact.Heard tx Abort) key h some = absurd (omega arith)
 base_fact (Fact.Booted epoch) key h some = absurd (omega arith)
+base_fact (Fact.Floor centre epoch seq) key h some = absurd (omega arith)
 base_fact (Fact.Promised k low high ballot) key h some = absurd (omega arith)
 base_fact (Fact.Voted k version ballot options offered) key h some = absurd (omega arith)
 base_fact (Fact.Adopted k version item adds) key h some =
@@ -72,6 +75,7 @@ base_above : (f : Fact) (key : Key) (v : ℕ) → full.version_from key f < v �
 base_above (Fact.Heard tx (Commit cs)) key v h = bases_above key v cs h
 base_above (Fact.Heard tx Abort) key v h = refl
 base_above (Fact.Booted epoch) key v h = refl
+base_above (Fact.Floor centre epoch seq) key v h = refl
 base_above (Fact.Promised k low high ballot) key v h = refl
 base_above (Fact.Voted k version ballot options offered) key v h = refl
 base_above (Fact.Adopted k version item adds) key v h =
@@ -192,6 +196,7 @@ pub deltas_same : (f : Fact) (i : Place) → full.deltas_from i.key i.version f 
 deltas_same (Fact.Heard tx (Commit cs)) i = delta_choice cs i
 deltas_same (Fact.Heard tx Abort) i = refl
 deltas_same (Fact.Booted epoch) i = refl
+deltas_same (Fact.Floor centre epoch seq) i = refl
 deltas_same (Fact.Promised k low high ballot) i = refl
 deltas_same (Fact.Voted k version ballot options offered) i = refl
 deltas_same (Fact.Adopted k version item adds) i = ap (λ b. cond b (map delta_pair adds) []) (and_swap (version == i.version) (key_eq k i.key))

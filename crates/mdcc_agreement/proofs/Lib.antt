@@ -7,12 +7,15 @@ pub mod BegunReduced
 pub mod BothCounted
 pub mod CentresCounted
 pub mod ChoicesGive
+pub mod ChosenBelow
 pub mod ChosenFound
 pub mod DoubleCounting
 pub mod EveryStructure
 pub mod FitsBound
+pub mod FloorsReduced
 pub mod ForcedCounted
 pub mod ForcedReduced
+pub mod HeardHere
 pub mod HeldReduced
 pub mod LawsTold
 pub mod LedgersGrow
@@ -40,5 +43,6 @@ pub mod TestsDecide
 pub mod Totals
 pub mod VersionsLow
 pub mod ViewsReduced
+pub mod VoidAborted
 pub mod VotesOfFacts
 pub mod VotesReduced

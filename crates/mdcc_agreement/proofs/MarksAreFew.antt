@@ -1,26 +1,26 @@
 -- How many marks of a kind a structure has.
-use Rattle.std.proofs.Common.{◌≡◌, ℕ, ◌+◌, ◌-◌, ◌*◌, ◌≤◌, ◌<◌, ◌==◌, Bool, true, false, cond, List, [], ◌∷◌, length, refl, sym, ap, ◌∙◌, subst, arith, inl, inr, ◌⊎◌, Option, Some, None, lit≤}
+use Rattle.std.proofs.Common.{lit≤, ◌≡◌, ℕ, ◌+◌, ◌-◌, ◌*◌, ◌≤◌, ◌<◌, ◌==◌, Bool, true, false, cond, List, [], ◌∷◌, length, refl, sym, ap, ◌∙◌, subst, arith, inl, inr, ◌⊎◌, Option, Some, None, ◌++◌}
 use Rattle.std.proofs.Math.Nat.{mul-le-mul_left, mul-le-mul_right}
 use Rattle.std.proofs.lemmas.Bool.{cases_Bool, cases_lt, eqb-true, false≢true}
 use Rattle.mdcc_base.specs.TxId.{tx_eq}
 use Rattle.mdcc_base.specs.declared.identifiers.Ballot.{Ballot}
 use Rattle.mdcc_base.specs.declared.identifiers.TxId.{TxId}
 use Rattle.mdcc_option.specs.declared.choices.Mark.{Mark}
-use Rattle.mdcc_agreement.proofs.AcceptedAgree.{mark_of-cons, fast_voter, new_vote}
+use Rattle.mdcc_agreement.proofs.AcceptedAgree.{mark_of-cons, new_vote, fast_shown}
 use Rattle.mdcc_agreement.proofs.BallotOrder.{Below-fast}
 use Rattle.mdcc_agreement.proofs.Ballots.{fast}
 use Rattle.mdcc_agreement.proofs.StructuresExtend.{marks_at-cases, append-none}
 use Rattle.mdcc_agreement.proofs.ReportsCounted.{count-le, length-reports}
 use Rattle.mdcc_agreement.proofs.DoubleCounting.{held_totals}
-use Rattle.mdcc_agreement.proofs.EveryStructure.{every}
-use Rattle.mdcc_agreement.proofs.LedgersGrow.{IsTail-same, IsTail-drop, Allowed-tail}
+use Rattle.mdcc_agreement.proofs.EveryStructure.{every, reports_for}
+use Rattle.mdcc_agreement.proofs.LedgersGrow.{IsTail-same, IsTail-drop, Allowed-tail, IsTail-trans, kept-shown, shown-kept, shown-voted, still-shown}
 use Rattle.mdcc_agreement.proofs.LiveTotals.{Each-from, total_bound}
 use Rattle.mdcc_agreement.proofs.Setups.{Setup, IsSetup, centres_to, count}
-use Rattle.mdcc_agreement.proofs.ReducedFacts.{votes, ReducedReport}
+use Rattle.mdcc_agreement.proofs.ReducedFacts.{votes, ReducedReport, ReducedFact, Voted, shown, without_forgotten}
 use Rattle.mdcc_agreement.proofs.ReducedForced.{top}
-use Rattle.mdcc_agreement.proofs.ReducedLedger.{IsTail, Entry, Happened, Begun, Valued, facts_of, WasSent, Kind, kinds, ApartTx, OfKind, reports_of, members, MayAdd, IsFastVote, MayVote, MayHappen, IsFirst, Allowed}
+use Rattle.mdcc_agreement.proofs.ReducedLedger.{IsTail, Entry, Happened, Begun, Valued, facts_of, WasSent, Kind, kinds, ApartTx, OfKind, MayAdd, IsFastVote, MayVote, MayHappen, IsFirst, Allowed}
 use Rattle.mdcc_agreement.proofs.ReducedOptions.{In, Place, mark_of, gives, Extends, Distinct}
-use Rattle.mdcc_agreement.proofs.TestsDecide.{Decides-tx, Decides-is_mark}
+use Rattle.mdcc_agreement.proofs.TestsDecide.{Decides-is_mark, Decides-tx}
 use Rattle.mdcc_agreement.proofs.Totals.{total}
 
 abbrev of_kind : (Mark → Bool) → Option Mark → Bool
@@ -187,7 +187,26 @@ module _ (s : Setup) (sizes : IsSetup s) (all : List Entry) (legal : Allowed s a
     few = λ ts distinct of_it. h.few ts distinct (λ t listed. let it : OfKind k.test less t = of_it t listed in (it.0, it.1, ext t it.0 it.2));
   }
 
-  Few-votes : (a : ℕ) (old : List Entry) → IsTail old all → Few k.limit (votes (facts_of a old) i fast)
+  Few-less : (limit : ℕ) (less more : List (TxId × Mark)) → Extends more less → Few limit more → Few limit less
+  Few-less limit less more ext h = record {
+    few = λ ts distinct of_it. h.few ts distinct (λ t listed. let it : OfKind k.test less t = of_it t listed in (it.0, it.1, ext t it.0 it.2));
+  }
+
+  shown_less : (f : ReducedFact) (fs : List ReducedFact) (u : TxId) (y : Mark) (ps : List (TxId × Mark)) → mark_of u (without_forgotten (f ∷ fs) i ps) ≡ Some y → mark_of u (without_forgotten fs i ps) ≡ Some y
+  shown_less f fs u y ps g = kept-shown fs i u y ps (still-shown f fs i u (shown-kept (f ∷ fs) i u y ps g)) (shown-voted (f ∷ fs) i u y ps g)
+
+  -- what is shown after one more vote was shown before it, or is this vote
+  shown_new : (a : ℕ) (f : ReducedFact) (old : List Entry) (marks : List (TxId × Mark)) → f ≡ Voted i fast marks → (vote : IsFastVote s old (facts_of a old) i marks) →
+      (u : TxId) (y : Mark) → mark_of u (shown (f ∷ facts_of a old) i fast) ≡ Some y → (mark_of u (shown (facts_of a old) i fast) ≡ Some y) ⊎ ((u ≡ vote.tx) × (y ≡ vote.mark))
+  shown_new a f old marks is vote u y g =
+      let voted : mark_of u (votes (f ∷ facts_of a old) i fast) ≡ Some y = shown-voted (f ∷ facts_of a old) i u y (votes (f ∷ facts_of a old) i fast) g in
+      elim (new_vote s all legal i a f old marks is vote u y voted) [
+        | inl before ↦ inl (kept-shown (facts_of a old) i u y (votes (facts_of a old) i fast)
+            (still-shown f (facts_of a old) i u (shown-kept (f ∷ facts_of a old) i u y (votes (f ∷ facts_of a old) i fast) g)) before)
+        | inr now ↦ inr now
+      ]
+
+  Few-votes : (a : ℕ) (old : List Entry) → IsTail old all → Few k.limit (shown (facts_of a old) i fast)
   Few-votes a [] tail = record { few = λ ts apart of_it. none_listed ts of_it }
     where
       none_listed : (ts : List TxId) → ((t : TxId) → In t ts → OfKind k.test [] t) → length ts ≤ k.limit
@@ -197,16 +216,17 @@ module _ (s : Setup) (sizes : IsSetup s) (all : List Entry) (legal : Allowed s a
   Few-votes a (Valued b j l sent ∷ old) tail = Few-votes a old (IsTail-drop (Valued b j l sent) old all tail)
   Few-votes a (Happened b f ∷ old) tail =
       let older : IsTail old all = IsTail-drop (Happened b f) old all tail in
-      let before : Few k.limit (votes (facts_of a old) i fast) = Few-votes a old older in
+      let before : Few k.limit (shown (facts_of a old) i fast) = Few-votes a old older in
       let allowed : Allowed s (Happened b f ∷ old) = Allowed-tail s (Happened b f ∷ old) all tail legal in
       elim (cases_Bool (b == a)) [
         | inl e ↦ rw e (elim (marks_at-cases f i fast) [
           | inl here ↦
               let may : MayVote s old a i fast here.0 = subst (λ z. MayVote s old z i fast here.0) (eqb-true b a e) (subst (MayHappen s old b) here.1 allowed.1) in
               let vote : IsFastVote s old (facts_of a old) i here.0 = may.fast_vote refl in
-              Few-add k.limit (votes (facts_of a old) i fast) (votes (f ∷ facts_of a old) i fast) vote.tx vote.mark (omega arith)
-              (λ u y g. new_vote s all legal i a f old here.0 here.1 vote u y g) (λ test. vote.has_place k listed_k test) before
-          | inr other ↦ rw (other, append-none (votes (facts_of a old) i fast)) before
+              Few-add k.limit (shown (facts_of a old) i fast) (shown (f ∷ facts_of a old) i fast) vote.tx vote.mark (omega arith)
+              (λ u y g. shown_new a f old here.0 here.1 vote u y g) (λ test. vote.has_place k listed_k test) before
+          | inr other ↦ Few-less k.limit (shown (f ∷ facts_of a old) i fast) (shown (facts_of a old) i fast)
+              (λ u y g. shown_less f (facts_of a old) u y (votes (facts_of a old) i fast) (subst (λ z. mark_of u (without_forgotten (f ∷ facts_of a old) i z) ≡ Some y) (ap (λ z. votes (facts_of a old) i fast ++ z) other ∙ append-none (votes (facts_of a old) i fast)) g)) before
         ])
         | inr e ↦ rw e before
       ]
@@ -217,11 +237,11 @@ module _ (s : Setup) (sizes : IsSetup s) (all : List Entry) (legal : Allowed s a
       Few-add (2 * k.limit - 1) ps ((t, x) ∷ ps) t x (omega (arith, some_limit k listed_k)) (λ u y g. mark_of-cons s all legal i t u x y ps g) (λ test. may.has_place k listed_k test) h
 
   Few-fast : (old : List Entry) → IsTail old all → Allowed s old → (z : ℕ) (m : Ballot) (marks : List (TxId × Mark)) (first : IsFirst s old z i m marks) →
-      top (reports_of old i m (members first.quorum (centres_to s.centres))) ≡ fast → Few (2 * k.limit - 1) first.base
+      top (reports_for s old z i m marks first) ≡ fast → Few (2 * k.limit - 1) first.base
   Few-fast old tail allowed z m marks first is = record {
     few = λ ts distinct of_it.
-        let rs : List ReducedReport = reports_of old i m (members first.quorum (centres_to s.centres)) in
-        let many : length rs ≡ count first.quorum (centres_to s.centres) = length-reports old i m first.quorum (centres_to s.centres) in
+        let rs : List ReducedReport = reports_for s old z i m marks first in
+        let many : length rs ≡ count first.quorum (centres_to s.centres) = length-reports first.at_time i m first.quorum (centres_to s.centres) in
         let has : ReducedReport → TxId → Bool = λ r t. of_kind k.test (mark_of t r.marks) in
         let n : ℕ = s.fast + length rs - s.centres in
         let whole : ℕ = total (λ r. total (λ t. cond (has r t) 1 0) ts) rs in
@@ -238,12 +258,12 @@ module _ (s : Setup) (sizes : IsSetup s) (all : List Entry) (legal : Allowed s a
         ])) in
         let columns : 1 * whole ≤ length rs * k.limit =
         total_bound (λ r. total (λ t. cond (has r t) 1 0) ts) 1 k.limit rs (λ r listed.
-        let voted_by : (a : ℕ) × ((t : TxId) (x : Mark) → gives r.marks t x ≡ true → mark_of t (votes (facts_of a old) i fast) ≡ Some x) =
-        fast_voter s all legal i old first.quorum m r listed is in
+        let shown_by : (a : ℕ) × (first.quorum a ≡ true) × (r.marks ≡ shown (facts_of a (first.at_time a)) i fast) =
+        fast_shown s all legal i first.at_time first.quorum m r listed is in
         let few : length (kept_tx (has r) ts) ≤ k.limit =
-        (Few-votes voted_by.0 old tail).few (kept_tx (has r) ts) (ApartTx-kept (has r) ts distinct) (λ t l.
-        let shown : (x : Mark) × (k.test x ≡ true) × (mark_of t r.marks ≡ Some x) = of_kind-shows k.test (mark_of t r.marks) (In-kept_tx (has r) t ts l).1 in
-        (shown.0, shown.1, voted_by.1 t shown.0 ((Decides-is_mark (mark_of t r.marks) shown.0).1 shown.2))) in
+        (Few-votes shown_by.0 (first.at_time shown_by.0) (IsTail-trans (first.at_time shown_by.0) old all (first.before shown_by.0 shown_by.1) tail)).few (kept_tx (has r) ts) (ApartTx-kept (has r) ts distinct) (λ t l.
+        let there : (x : Mark) × (k.test x ≡ true) × (mark_of t r.marks ≡ Some x) = of_kind-shows k.test (mark_of t r.marks) (In-kept_tx (has r) t ts l).1 in
+        (there.0, there.1, subst (λ z. mark_of t z ≡ Some there.0) shown_by.2 there.2)) in
         omega (arith, total-kept_tx (has r) ts)) in
         few_left n (length rs) (length ts) k.limit whole
         (omega (arith, sizes.fast_within, sizes.two_fast, first.enough)) (some_limit k listed_k) (subst (λ v. n * v ≤ whole) (total-ones ts) rows) (omega arith);

@@ -13,12 +13,13 @@ use Rattle.mdcc_option.specs.declared.items.Item.{Item}
 use Rattle.mdcc_option.specs.declared.items.Update.{Update}
 use Rattle.mdcc_option.specs.declared.items.Update.TheVariants.{Write, Add}
 use Rattle.mdcc_protocol.specs.Marks.{Amounts}
-use Rattle.mdcc_agreement.proofs.AcceptedAgree.{IsChosen-tail, consistent}
+use Rattle.mdcc_agreement.proofs.AcceptedAgree.{consistent}
+use Rattle.mdcc_agreement.proofs.HeardHere.{IsChosen-tail}
 use Rattle.mdcc_agreement.proofs.BegunOnce.{WasBegun-tail, begun_once, begun_own, one_choice}
 use Rattle.mdcc_agreement.proofs.LedgersGrow.{IsTail-same, IsTail-drop}
 use Rattle.mdcc_agreement.proofs.OneMark.{one_mark}
 use Rattle.mdcc_agreement.proofs.Setups.{Setup, IsSetup}
-use Rattle.mdcc_agreement.proofs.ReducedFacts.{ReducedFact, Booted, Promised, Voted, Heard, Adopted, raised, written, current_by, current, base_by, base}
+use Rattle.mdcc_agreement.proofs.ReducedFacts.{ReducedFact, Booted, Floor, Promised, Voted, Heard, Adopted, raised, written, current_by, current, base_by, base}
 use Rattle.mdcc_agreement.proofs.ReducedLedger.{IsTail, Entry, Happened, Begun, Valued, facts_of, WasBegun, IsChoice, IsChosen, IsAborted, IsCommitted, MayHappen, Meets, Allowed, WritesOn, Gave, Holds}
 use Rattle.mdcc_agreement.proofs.ReducedOptions.{spot, In, Agrees}
 use Rattle.mdcc_agreement.proofs.TestsDecide.{Decides-key, Decides-tx, same_place}
@@ -73,6 +74,7 @@ module _ (s : Setup) (sizes : IsSetup s) (all : List Entry) (legal : Allowed s a
       ((old : List Entry) → IsTail old es → (a : ℕ) (key : Key) → Holds s all key (current (facts_of a old) key) (base (facts_of a old) key)) →
       (a : ℕ) (f : ReducedFact) → MayHappen s es a f → (key : Key) → 0 < current_by f key → Gave s all key (current_by f key) (base_by f key)
   one_fact es tail allowed known a (Booted e) may key h = absurd (omega arith)
+  one_fact es tail allowed known a (Floor origin era upto) may key h = absurd (omega arith)
   one_fact es tail allowed known a (Promised k low high l) may key h = absurd (omega arith)
   one_fact es tail allowed known a (Voted j l marks) may key h = absurd (omega arith)
   one_fact es tail allowed known a (Heard t Abort) may key h = absurd (omega arith)

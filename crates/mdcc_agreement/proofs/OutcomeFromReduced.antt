@@ -17,7 +17,7 @@ use Rattle.mdcc_option.specs.declared.items.Part.{Part}
 use Rattle.mdcc_ledger.specs.AllowedLedgers.{IsAllowed, IsAllowedBegun, part_in}
 use Rattle.mdcc_ledger.specs.Ledger as ledger
 use Rattle.mdcc_protocol.specs.Marks.{is_reject_found, choice_in, outcome_of_marks}
-use Rattle.mdcc_agreement.proofs.AcceptedAgree.{IsAborted-tail}
+use Rattle.mdcc_agreement.proofs.HeardHere.{IsAborted-tail}
 use Rattle.mdcc_agreement.proofs.OneBase.{IsCommitted-tail}
 use Rattle.mdcc_agreement.proofs.BegunOnce.{begun_once}
 use Rattle.mdcc_agreement.proofs.OutcomeToReduced.{found_begun, decided}

@@ -2,7 +2,6 @@
 use Rattle.std.specs.Prelude.{◌≡◌, ℕ, ◌≤◌, ◌⊎◌, Bool, false, cond, suc, max, ◌&&◌, ◌||◌, ◌==◌, nat_le, nat_lt, List, [], ◌∷◌, ◌++◌, Option, Some, None}
 use Rattle.mdcc_base.specs.Ballot.{ballot_lt, ballot_eq}
 use Rattle.mdcc_base.specs.Key.{key_eq}
-use Rattle.mdcc_base.specs.TxId.{tx_eq}
 use Rattle.mdcc_base.specs.declared.identifiers.Ballot.{Ballot}
 use Rattle.mdcc_base.specs.declared.identifiers.TxId.{TxId}
 use Rattle.mdcc_base.specs.declared.key.Key.{Key}
@@ -16,7 +15,7 @@ use Rattle.mdcc_option.specs.declared.items.Update.{Update}
 use Rattle.mdcc_option.specs.declared.items.Update.TheVariants.{Write, Add}
 use Rattle.mdcc_protocol.specs.Marks.{Amounts}
 use Rattle.mdcc_agreement.proofs.Ballots.{fast}
-use Rattle.mdcc_agreement.proofs.ReducedOptions.{Place, place_eq, spot, mark_of, In, allows, allows_delta}
+use Rattle.mdcc_agreement.proofs.ReducedOptions.{Place, place_eq, spot, mark_of}
 
 pub data ReducedFact : Type 0 where
   Booted : (epoch : ℕ) → ReducedFact
@@ -24,6 +23,7 @@ pub data ReducedFact : Type 0 where
   Voted : (place : Place) (ballot : Ballot) (marks : List (TxId × Mark)) → ReducedFact
   Heard : (tx : TxId) (outcome : Outcome) → ReducedFact
   Adopted : (key : Key) (version : ℕ) (base : Item) (deltas : List (TxId × Amounts)) → ReducedFact
+  Floor : (origin era upto : ℕ) → ReducedFact
 
 abbrev pub greater : Ballot → Ballot → Ballot
 greater k m = cond (ballot_lt k m) m k
@@ -31,6 +31,7 @@ greater k m = cond (ballot_lt k m) m k
 -- what one fact promises at an instance
 abbrev pub promised_by : ReducedFact → Place → Ballot
 promised_by (Booted e) i = fast
+promised_by (Floor origin era upto) i = fast
 promised_by (Promised key low high m) i = cond (key_eq key i.key && (nat_le low i.version && nat_le i.version high)) m fast
 promised_by (Voted j k marks) i = cond (place_eq j i) k fast
 promised_by (Heard t o) i = fast
@@ -45,6 +46,7 @@ promise (f ∷ fs) i = greater (promised_by f i) (promise fs i)
 abbrev pub marks_at : ReducedFact → Place → Ballot → List (TxId × Mark)
 marks_at (Voted j l marks) i k = cond (place_eq j i && ballot_eq l k) marks []
 marks_at (Booted e) i k = []
+marks_at (Floor origin era upto) i k = []
 marks_at (Promised key low high m) i k = []
 marks_at (Heard t o) i k = []
 marks_at (Adopted key version base deltas) i k = []
@@ -58,6 +60,7 @@ votes (f ∷ fs) i k = votes fs i k ++ marks_at f i k
 abbrev pub voted_by : ReducedFact → Place → Ballot → Ballot
 voted_by (Voted j l marks) i m = cond (place_eq j i && ballot_lt l m) l fast
 voted_by (Booted e) i m = fast
+voted_by (Floor origin era upto) i m = fast
 voted_by (Promised key low high l) i m = fast
 voted_by (Heard t o) i m = fast
 voted_by (Adopted key version base deltas) i m = fast
@@ -67,32 +70,16 @@ abbrev pub voted_below : List ReducedFact → Place → Ballot → Ballot
 voted_below [] i m = fast
 voted_below (f ∷ fs) i m = greater (voted_by f i m) (voted_below fs i m)
 
-pub record ReducedReport : Type 0 where
-  pub ballot : Ballot
-  pub marks : List (TxId × Mark)
-
-abbrev pub report : List ReducedFact → Place → Ballot → ReducedReport
-report fs i m = record { ballot = voted_below fs i m; marks = votes fs i (voted_below fs i m) }
-
 -- a Promised fact with this ballot whose range holds the instance
 abbrev pub HasPromised : List ReducedFact → Place → Ballot → Type 0
 HasPromised [] i m = ⊥
 HasPromised (Promised key low high l ∷ fs) i m =
     ((key ≡ i.key) × (low ≤ i.version) × (i.version ≤ high) × (l ≡ m)) ⊎ HasPromised fs i m
 HasPromised (Booted e ∷ fs) i m = HasPromised fs i m
+HasPromised (Floor origin era upto ∷ fs) i m = HasPromised fs i m
 HasPromised (Voted j l marks ∷ fs) i m = HasPromised fs i m
 HasPromised (Heard t o ∷ fs) i m = HasPromised fs i m
 HasPromised (Adopted key version base deltas ∷ fs) i m = HasPromised fs i m
-
--- a transaction that was heard aborted
-abbrev pub void : List ReducedFact → TxId → Bool
-void [] t = false
-void (Heard u Abort ∷ fs) t = tx_eq u t || void fs t
-void (Heard u (Commit cs) ∷ fs) t = void fs t
-void (Booted e ∷ fs) t = void fs t
-void (Promised key low high l ∷ fs) t = void fs t
-void (Voted j l marks ∷ fs) t = void fs t
-void (Adopted key version base deltas ∷ fs) t = void fs t
 
 abbrev pub amounts_of : TxId → Update → List (TxId × Amounts)
 amounts_of t (Write b s) = []
@@ -109,6 +96,7 @@ executed_by (Heard t (Commit cs)) i = adds_at cs i
 executed_by (Heard t Abort) i = []
 executed_by (Adopted key version base deltas) i = cond (key_eq key i.key && (version == i.version)) deltas []
 executed_by (Booted e) i = []
+executed_by (Floor origin era upto) i = []
 executed_by (Promised key low high l) i = []
 executed_by (Voted j l marks) i = []
 
@@ -130,6 +118,7 @@ current_by (Heard t (Commit cs)) key = raised cs key
 current_by (Heard t Abort) key = 0
 current_by (Adopted k version base deltas) key = cond (key_eq k key) version 0
 current_by (Booted e) key = 0
+current_by (Floor origin era upto) key = 0
 current_by (Promised k low high l) key = 0
 current_by (Voted j l marks) key = 0
 
@@ -142,10 +131,44 @@ current (f ∷ fs) key = max (current_by f key) (current fs key)
 abbrev pub IsAcceptedVote : List ReducedFact → Place → Choice → Type 0
 IsAcceptedVote fs i d = (k : Ballot) × (mark_of d.tx (votes fs i k) ≡ Some (Accept d))
 
--- a new choice is not in conflict with those accepted and with what is executed
-pub record IsClear (fs : List ReducedFact) (accepted : Choice → Type 0) (i : Place) (c : Choice) : Type 0 where
-  pub chosen : (d : Choice) → accepted d → void fs d.tx ≡ false → allows c.update d.tx d.update
-  pub deltas : (p : TxId × Amounts) → In p (executed fs i) → void fs p.0 ≡ false → allows_delta c.update p.0
+-- a transaction was heard
+abbrev pub HasHeard : List ReducedFact → TxId → Type 0
+HasHeard [] t = ⊥
+HasHeard (Heard u o ∷ fs) t = (u ≡ t) ⊎ HasHeard fs t
+HasHeard (Booted e ∷ fs) t = HasHeard fs t
+HasHeard (Floor origin era upto ∷ fs) t = HasHeard fs t
+HasHeard (Promised key low high m ∷ fs) t = HasHeard fs t
+HasHeard (Voted j l marks ∷ fs) t = HasHeard fs t
+HasHeard (Adopted key version base deltas ∷ fs) t = HasHeard fs t
+
+-- a transaction is finished here: all have heard it
+abbrev pub finished : List ReducedFact → TxId → Bool
+finished [] t = false
+finished (Floor origin era upto ∷ fs) t =
+    ((origin == t.centre) && ((era == t.epoch) && (nat_lt 0 t.seq && nat_le t.seq upto))) || finished fs t
+finished (Booted e ∷ fs) t = finished fs t
+finished (Promised key low high m ∷ fs) t = finished fs t
+finished (Voted j l marks ∷ fs) t = finished fs t
+finished (Heard u o ∷ fs) t = finished fs t
+finished (Adopted key version base deltas ∷ fs) t = finished fs t
+
+-- a mark that is no longer shown
+abbrev pub forgotten : List ReducedFact → Place → TxId → Bool
+forgotten fs i t = finished fs t && nat_lt i.version (current fs i.key)
+
+abbrev pub without_forgotten : List ReducedFact → Place → List (TxId × Mark) → List (TxId × Mark)
+without_forgotten fs i [] = []
+without_forgotten fs i (p ∷ ps) = cond (forgotten fs i p.0) (without_forgotten fs i ps) (p ∷ without_forgotten fs i ps)
+
+abbrev pub shown : List ReducedFact → Place → Ballot → List (TxId × Mark)
+shown fs i k = without_forgotten fs i (votes fs i k)
+
+pub record ReducedReport : Type 0 where
+  pub ballot : Ballot
+  pub marks : List (TxId × Mark)
+
+abbrev pub report : List ReducedFact → Place → Ballot → ReducedReport
+report fs i m = record { ballot = voted_below fs i m; marks = shown fs i (voted_below fs i m) }
 
 abbrev pub body_of : Update → Option Item
 body_of (Write b s) = Some b
@@ -161,6 +184,7 @@ base_by (Heard t (Commit cs)) key = written cs key
 base_by (Heard t Abort) key = None
 base_by (Adopted k version b ds) key = Some b
 base_by (Booted e) key = None
+base_by (Floor origin era upto) key = None
 base_by (Promised k low high l) key = None
 base_by (Voted j l marks) key = None
 

@@ -18,9 +18,9 @@ use Rattle.mdcc_protocol.specs.Fit.{above_zero, decrease, increase, amounts_in}
 use Rattle.mdcc_protocol.specs.Marks.{Amounts}
 use Rattle.mdcc_agreement.proofs.Ballots.{fast, Below}
 use Rattle.mdcc_agreement.proofs.Setups.{Setup, centres_to, count}
-use Rattle.mdcc_agreement.proofs.ReducedFacts.{ReducedFact, Booted, Promised, Voted, Heard, Adopted, promise, votes, report, ReducedReport, HasPromised, base, Quantity, executed, current, IsAcceptedVote, IsClear, void}
+use Rattle.mdcc_agreement.proofs.ReducedFacts.{ReducedFact, Booted, Floor, Promised, Voted, Heard, Adopted, promise, votes, shown, report, ReducedReport, HasPromised, HasHeard, finished, base, Quantity, executed, current, IsAcceptedVote}
 use Rattle.mdcc_agreement.proofs.ReducedForced.{IsForced}
-use Rattle.mdcc_agreement.proofs.ReducedOptions.{Place, spot, Apart, place_eq, mark_of, gives, In, Distinct, is_add}
+use Rattle.mdcc_agreement.proofs.ReducedOptions.{Place, spot, Apart, place_eq, mark_of, gives, In, Distinct, is_add, allows, allows_delta}
 use Rattle.mdcc_agreement.proofs.Totals.{total}
 
 pub data Entry : Type 0 where
@@ -50,10 +50,19 @@ size_at s k = cond (ballot_eq k fast) s.fast s.classic
 abbrev pub IsChosen : Setup → List Entry → Place → Ballot → TxId → Mark → Type 0
 IsChosen s es i k t x = size_at s k ≤ count (λ a. gives (votes (facts_of a es) i k) t x) (centres_to s.centres)
 
--- the members of a set, and their reports
-abbrev pub reports_of : List Entry → Place → Ballot → List ℕ → List ReducedReport
-reports_of es i m [] = []
-reports_of es i m (a ∷ as') = report (facts_of a es) i m ∷ reports_of es i m as'
+-- the members of a set, and their reports, each of a moment of its own
+abbrev pub reports_of : (ℕ → List Entry) → Place → Ballot → List ℕ → List ReducedReport
+reports_of at_time i m [] = []
+reports_of at_time i m (a ∷ as') = report (facts_of a (at_time a)) i m ∷ reports_of at_time i m as'
+
+-- all centres have heard a transaction
+abbrev pub AllHeard : Setup → List Entry → TxId → Type 0
+AllHeard s es t = (a : ℕ) → In a (centres_to s.centres) → HasHeard (facts_of a es) t
+
+-- the older ledger is what stood when the newer one had come so far
+abbrev pub IsTail : List Entry → List Entry → Type 0
+IsTail old [] = old ≡ []
+IsTail old (e ∷ es) = (old ≡ e ∷ es) ⊎ IsTail old es
 
 abbrev pub members : (ℕ → Bool) → List ℕ → List ℕ
 members q [] = []
@@ -109,16 +118,29 @@ IsQuantity s q =
     ⊎ ((n : ℕ) × (0 < n) × (n ≤ length s.schema)
     × ((q ≡ record { amount = taken n; room = room_below s.schema n }) ⊎ (q ≡ record { amount = given n; room = room_above s.schema n })))
 
+-- a choice of the instance that may still count: its transaction is not aborted
+abbrev pub MayCount : Setup → List Entry → Place → Choice → Type 0
+MayCount s es i d = (spot d ≡ i) × ((cs : List Choice) → WasBegun es d.tx cs → In d cs) × (IsAborted s es d.tx → ⊥)
+
+-- an Add that a centre has executed there
+abbrev pub Executes : List ReducedFact → Place → Choice → Type 0
+Executes fs i d = (m : Amounts) × (d.update ≡ Add m) × In (d.tx, m) (executed fs i)
+
+-- a new choice is not in conflict with those accepted and with what is executed
+pub record IsClear (s : Setup) (es : List Entry) (fs : List ReducedFact) (accepted : Choice → Type 0) (i : Place) (c : Choice) : Type 0 where
+  pub chosen : (d : Choice) → accepted d → MayCount s es i d → allows c.update d.tx d.update
+  pub deltas : (d : Choice) → Executes fs i d → MayCount s es i d → allows_delta c.update d.tx
+
 -- a choice may be marked accepted, beside those that are
--- (weight and share give the part of the room that may be taken)
-pub record IsFit (s : Setup) (weight share : ℕ) (es : List Entry) (fs : List ReducedFact) (accepted : Choice → Type 0) (i : Place) (t : TxId) (c : Choice) : Type 0 where
+-- (weight and share give the part of the room that may be taken by what is counted)
+pub record IsFit (s : Setup) (weight share : ℕ) (es : List Entry) (fs : List ReducedFact) (accepted counted : Choice → Type 0) (i : Place) (t : TxId) (c : Choice) : Type 0 where
   pub own : c.tx ≡ t
   pub here : (spot c) ≡ i
   pub begun : IsChoice es c
   pub held : current fs i.key ≡ i.version
-  pub clear : IsClear fs accepted i c
+  pub clear : IsClear s es fs accepted i c
   pub within : (q : Quantity) → IsQuantity s q → 0 < q.amount c.update → (ds : List Choice) → Apart ds →
-      ((d : Choice) → In d ds → accepted d × (void fs d.tx ≡ false)) →
+      ((d : Choice) → In d ds → counted d × MayCount s es i d) →
       weight * (total (λ d. q.amount d.update) ds + q.amount c.update) ≤ share * q.room (base fs i.key)
 
 -- how many marks of a kind may stand before one more is added
@@ -159,11 +181,17 @@ last_sent (Begun b t cs ∷ es) i m = last_sent es i m
 abbrev pub IsAcceptedIn : List (TxId × Mark) → Choice → Type 0
 IsAcceptedIn marks d = mark_of d.tx marks ≡ Some (Accept d)
 
+-- what a leader counts: what its structure accepts, and executed deltas without an accepted mark there
+abbrev pub IsLive : List ReducedFact → Place → List (TxId × Mark) → Choice → Type 0
+IsLive fs i marks d = IsAcceptedIn marks d ⊎ (Executes fs i d × ((x : Choice) → mark_of d.tx marks ≡ Some (Accept x) → ⊥))
+
 -- a leader may add a mark to a structure
 pub record MayAdd (s : Setup) (es : List Entry) (a : ℕ) (i : Place) (before : List (TxId × Mark)) (t : TxId) (x : Mark) : Type 0 where
   pub new : mark_of t before ≡ None
+  pub centre : In a (centres_to s.centres)
+  pub unheard : HasHeard (facts_of a es) t → ⊥
   pub has_place : HasPlace before x
-  pub fits : (c : Choice) → x ≡ Accept c → IsFit s 1 1 es (facts_of a es) (IsAcceptedIn before) i t c
+  pub fits : (c : Choice) → x ≡ Accept c → IsFit s 1 1 es (facts_of a es) (IsAcceptedIn before) (IsLive (facts_of a es) i before) i t c
 
 -- one more mark, anywhere in the list
 pub record IsMore (before : List (TxId × Mark)) (t : TxId) (x : Mark) (after : List (TxId × Mark)) : Type 0 where
@@ -181,22 +209,28 @@ abbrev pub Grown : Setup → List Entry → ℕ → Place → List (TxId × Mark
 Grown s es a i less [] more = less ≡ more
 Grown s es a i less (p ∷ ps) more = Grown s es a i less ps p.before × MayAdd s es a i p.before p.tx p.mark × IsMore p.before p.tx p.mark more
 
--- accepted choices of a structure that are not void take something only where its version is held, and keep within the room
-abbrev pub AreTogether : Setup → List ReducedFact → Place → List (TxId × Mark) → Type 0
-AreTogether s fs i marks =
-    (q : Quantity) → IsQuantity s q → (ds : List Choice) → Apart ds → ((d : Choice) → In d ds → IsAcceptedIn marks d × (void fs d.tx ≡ false)) →
-    0 < total (λ d. q.amount d.update) ds → (current fs i.key ≡ i.version) × (total (λ d. q.amount d.update) ds ≤ q.room (base fs i.key))
+-- marks that must be kept have no accepted Add, or fit together at a leader that holds the version, beside what it has executed
+pub record FitsTogether (s : Setup) (es : List Entry) (a : ℕ) (i : Place) (kept : List (TxId × Mark)) : Type 0 where
+  pub held : current (facts_of a es) i.key ≡ i.version
+  pub within : (q : Quantity) → IsQuantity s q → (ds : List Choice) → Apart ds → ((d : Choice) → In d ds → IsLive (facts_of a es) i kept d × MayCount s es i d) →
+      total (λ d. q.amount d.update) ds ≤ q.room (base (facts_of a es) i.key)
+
+abbrev pub AreTogether : Setup → List Entry → ℕ → Place → List (TxId × Mark) → Type 0
+AreTogether s es a i kept = ((c : Choice) → IsAcceptedIn kept c → is_add c.update ≡ false) ⊎ FitsTogether s es a i kept
 
 pub record IsFirst (s : Setup) (es : List Entry) (a : ℕ) (i : Place) (m : Ballot) (marks : List (TxId × Mark)) : Type 0 where
   pub none : last_sent es i m ≡ None
+  pub centre : In a (centres_to s.centres)
   pub quorum : ℕ → Bool
   pub enough : s.classic ≤ count quorum (centres_to s.centres)
-  pub promised : (b : ℕ) → quorum b ≡ true → HasPromised (facts_of b es) i m
+  pub at_time : ℕ → List Entry
+  pub before : (b : ℕ) → quorum b ≡ true → IsTail (at_time b) es
+  pub promised : (b : ℕ) → quorum b ≡ true → HasPromised (facts_of b (at_time b)) i m
   pub base : List (TxId × Mark)
   pub apart : Distinct base
-  pub forced : (t : TxId) (x : Mark) → IsForced s (reports_of es i m (members quorum (centres_to s.centres))) t x → mark_of t base ≡ Some x
-  pub forced_only : (t : TxId) (x : Mark) → mark_of t base ≡ Some x → IsForced s (reports_of es i m (members quorum (centres_to s.centres))) t x
-  pub together : (s.parts ≤ count quorum (centres_to s.centres)) ⊎ AreTogether s (facts_of a es) i base
+  pub forced : (t : TxId) (x : Mark) → IsForced s (reports_of at_time i m (members quorum (centres_to s.centres))) t x → mark_of t base ≡ Some x
+  pub forced_only : (t : TxId) (x : Mark) → mark_of t base ≡ Some x → IsForced s (reports_of at_time i m (members quorum (centres_to s.centres))) t x
+  pub together : (s.parts ≤ count quorum (centres_to s.centres)) ⊎ AreTogether s es a i base
   pub steps : List Step
   pub grown : Grown s es a i base steps marks
 
@@ -206,11 +240,12 @@ pub record IsNext (s : Setup) (es : List Entry) (a : ℕ) (i : Place) (m : Ballo
   pub steps : List Step
   pub grown : Grown s es a i last steps marks
 
--- the votes of a centre are a structure that was sent
+-- the votes of a centre are a structure that was sent, from which only finished transactions may be missing
 pub record IsBacked (es : List Entry) (fs : List ReducedFact) (i : Place) (k : Ballot) : Type 0 where
   pub marks : List (TxId × Mark)
   pub sent : WasSent es i k marks
-  pub same : (t : TxId) → mark_of t (votes fs i k) ≡ mark_of t marks
+  pub within : (t : TxId) (x : Mark) → mark_of t (votes fs i k) ≡ Some x → mark_of t marks ≡ Some x
+  pub whole : (t : TxId) (x : Mark) → finished fs t ≡ false → mark_of t marks ≡ Some x → mark_of t (votes fs i k) ≡ Some x
 
 -- a vote at the fast ballot
 pub record IsFastVote (s : Setup) (es : List Entry) (fs : List ReducedFact) (i : Place) (marks : List (TxId × Mark)) : Type 0 where
@@ -218,19 +253,14 @@ pub record IsFastVote (s : Setup) (es : List Entry) (fs : List ReducedFact) (i :
   pub mark : Mark
   pub single : marks ≡ (tx, mark) ∷ []
   pub new : (k : Ballot) → mark_of tx (votes fs i k) ≡ None
-  pub has_place : HasPlace (votes fs i fast) mark
-  pub fits : (c : Choice) → mark ≡ Accept c → IsFit s s.parts (s.fast + s.parts - s.centres) es fs (IsAcceptedVote fs i) i tx c
+  pub has_place : HasPlace (shown fs i fast) mark
+  pub fits : (c : Choice) → mark ≡ Accept c → IsFit s s.parts (s.fast + s.parts - s.centres) es fs (IsAcceptedVote fs i) (IsAcceptedVote fs i) i tx c
 
 pub record MayVote (s : Setup) (es : List Entry) (a : ℕ) (i : Place) (k : Ballot) (marks : List (TxId × Mark)) : Type 0 where
   pub promise_held : Below k (promise (facts_of a es) i) → ⊥
   pub fast_vote : k ≡ fast → IsFastVote s es (facts_of a es) i marks
   pub each_new : (p : TxId × Mark) → In p marks → (mark_of p.0 (votes (facts_of a es) i k) ≡ None) × (mark_of p.0 marks ≡ Some p.1)
   pub backed : Below fast k → IsBacked es (Voted i k marks ∷ facts_of a es) i k
-
--- the older ledger is what stood when the newer one had come so far
-abbrev pub IsTail : List Entry → List Entry → Type 0
-IsTail old [] = old ≡ []
-IsTail old (e ∷ es) = (old ≡ e ∷ es) ⊎ IsTail old es
 
 -- what is adopted was held by some centre before
 pub record MayAdopt (es : List Entry) (key : Key) (version : ℕ) (item : Item) (deltas : List (TxId × Amounts)) : Type 0 where
@@ -247,6 +277,7 @@ MayHear s es t Abort = IsAborted s es t
 
 abbrev pub MayHappen : Setup → List Entry → ℕ → ReducedFact → Type 0
 MayHappen s es a (Booted e) = Unit {0}
+MayHappen s es a (Floor origin era upto) = (t : TxId) → t.centre ≡ origin → t.epoch ≡ era → 0 < t.seq → t.seq ≤ upto → AllHeard s es t
 MayHappen s es a (Promised key low high m) = Below fast m
 MayHappen s es a (Voted i k marks) = MayVote s es a i k marks
 MayHappen s es a (Heard t o) = MayHear s es t o

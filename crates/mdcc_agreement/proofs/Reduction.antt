@@ -14,8 +14,8 @@ use Rattle.mdcc_protocol.specs.Marks.{Amounts}
 use Rattle.mdcc_messages.specs.declared.facts.Fact.{Fact}
 use Rattle.mdcc_protocol.proofs.EnoughPromises.{parts-classic, parts-within}
 use Rattle.mdcc_agreement.proofs.Setups.{Setup, IsSetup}
-use Rattle.mdcc_agreement.proofs.ReducedFacts.{ReducedFact, Booted, Promised, Voted, Heard, Adopted}
-use Rattle.mdcc_agreement.proofs.ReducedLedger.{Entry, Happened, Begun, Valued, facts_of}
+use Rattle.mdcc_agreement.proofs.ReducedFacts.{ReducedFact, Booted, Floor, Promised, Voted, Heard, Adopted}
+use Rattle.mdcc_agreement.proofs.ReducedLedger.{Entry, Happened, Begun, Valued, facts_of, IsTail}
 use Rattle.mdcc_agreement.proofs.ReducedOptions.{mark_of}
 
 -- the sizes of quorums, the parts of an acceptor's room, and the schema
@@ -43,6 +43,7 @@ delta_pair delta = (delta.tx, delta.amounts)
 
 abbrev pub reduced_fact : Fact → ReducedFact
 reduced_fact (Fact.Booted epoch) = Booted epoch
+reduced_fact (Fact.Floor centre epoch seq) = Floor centre epoch seq
 reduced_fact (Fact.Promised key low high ballot) = Promised key low high ballot
 reduced_fact (Fact.Voted key version ballot options offered) = Voted (record { key = key; version = version }) ballot options
 reduced_fact (Fact.Heard tx outcome) = Heard tx outcome
@@ -85,3 +86,8 @@ mark_of-or t (p ∷ ps) qs =
       | inl e ↦ rw e refl
       | inr e ↦ rw e (mark_of-or t ps qs)
     ]
+
+-- what was before
+pub tail_after : (later earlier : List ledger.Entry) → IsTail (reduced earlier) (reduced (later ++ earlier))
+tail_after [] earlier = Rattle.mdcc_agreement.proofs.LedgersGrow.IsTail-same (reduced earlier)
+tail_after (e ∷ later) earlier = inr (tail_after later earlier)

@@ -10,7 +10,7 @@ use Rattle.mdcc_agreement.proofs.BothCounted.{count_both}
 use Rattle.mdcc_agreement.proofs.Setups.{count}
 use Rattle.mdcc_agreement.proofs.ReducedFacts.{greater, voted_below, ReducedReport, report}
 use Rattle.mdcc_agreement.proofs.ReducedForced.{top, Voices}
-use Rattle.mdcc_agreement.proofs.ReducedLedger.{Entry, facts_of, reports_of, members}
+use Rattle.mdcc_agreement.proofs.ReducedLedger.{Entry, facts_of, reports_of, members, given}
 use Rattle.mdcc_agreement.proofs.ReducedOptions.{Place, mark_of, gives, In}
 use Rattle.mdcc_agreement.proofs.VotesOfFacts.{greater-left, greater-right, greater-cases}
 
@@ -45,12 +45,12 @@ In-members q a (x ∷ xs) h e =
       | inr fails ↦ rw fails (elim h [ inl here ↦ absurd (false≢true (sym fails ∙ ap q here ∙ e)) | inr there ↦ In-members q a xs there e ])
     ]
 
-module _ (es : List Entry) (i : Place) (m : Ballot) where
-  pub In-reports : (a : ℕ) (xs : List ℕ) → In a xs → In (report (facts_of a es) i m) (reports_of es i m xs)
+module _ (at_time : ℕ → List Entry) (i : Place) (m : Ballot) where
+  pub In-reports : (a : ℕ) (xs : List ℕ) → In a xs → In (report (facts_of a (at_time a)) i m) (reports_of at_time i m xs)
   In-reports a [] h = h
-  In-reports a (x ∷ xs) h = elim h [ inl here ↦ inl (ap (λ z. report (facts_of z es) i m) here) | inr there ↦ inr (In-reports a xs there) ]
+  In-reports a (x ∷ xs) h = elim h [ inl here ↦ inl (ap (λ z. report (facts_of z (at_time z)) i m) here) | inr there ↦ inr (In-reports a xs there) ]
 
-  pub length-reports : (q : ℕ → Bool) (xs : List ℕ) → length (reports_of es i m (members q xs)) ≡ count q xs
+  pub length-reports : (q : ℕ → Bool) (xs : List ℕ) → length (reports_of at_time i m (members q xs)) ≡ count q xs
   length-reports q [] = refl
   length-reports q (x ∷ xs) =
       elim (cases_Bool (q x)) [
@@ -59,7 +59,7 @@ module _ (es : List Entry) (i : Place) (m : Ballot) where
       ]
 
   pub count-reports : (q : ℕ → Bool) (t : TxId) (x : Mark) (xs : List ℕ) →
-      count (λ r. gives r.marks t x) (reports_of es i m (members q xs)) ≡ count (λ a. q a && gives (report (facts_of a es) i m).marks t x) xs
+      count (λ r. gives r.marks t x) (reports_of at_time i m (members q xs)) ≡ count (λ a. q a && gives (report (facts_of a (at_time a)) i m).marks t x) xs
   count-reports q t x [] = refl
   count-reports q t x (a ∷ xs) =
       elim (cases_Bool (q a)) [
@@ -67,14 +67,14 @@ module _ (es : List Entry) (i : Place) (m : Ballot) where
         | inr fails ↦ rw fails (omega (arith, count-reports q t x xs))
       ]
 
-  pub top-there : (q : ℕ → Bool) (k : Ballot) (xs : List ℕ) → top (reports_of es i m (members q xs)) ≡ k →
-      (k ≡ fast) ⊎ ((b : ℕ) × In b xs × (q b ≡ true) × (voted_below (facts_of b es) i m ≡ k))
+  pub top-there : (q : ℕ → Bool) (k : Ballot) (xs : List ℕ) → top (reports_of at_time i m (members q xs)) ≡ k →
+      (k ≡ fast) ⊎ ((b : ℕ) × In b xs × (q b ≡ true) × (voted_below (facts_of b (at_time b)) i m ≡ k))
   top-there q k [] h = inl (sym h)
   top-there q k (x ∷ xs) h =
       elim (cases_Bool (q x)) [
         | inl holds ↦
-            let is : greater (voted_below (facts_of x es) i m) (top (reports_of es i m (members q xs))) ≡ k = rw holds at h in
-            elim (greater-cases (voted_below (facts_of x es) i m) (top (reports_of es i m (members q xs)))) [
+            let is : greater (voted_below (facts_of x (at_time x)) i m) (top (reports_of at_time i m (members q xs))) ≡ k = rw holds at h in
+            elim (greater-cases (voted_below (facts_of x (at_time x)) i m) (top (reports_of at_time i m (members q xs)))) [
               | inl here ↦ inr (x, inl refl, holds, sym here ∙ is)
               | inr there ↦ elim (top-there q k xs (sym there ∙ is)) [ inl a ↦ inl a | inr b ↦ inr (b.0, inr b.1, b.2, b.3) ]
             ]
@@ -98,15 +98,15 @@ Voices-in r (s ∷ rs) k t x h is given =
     ]
 
 -- a report of a list is that of a member
-pub reports-of : (es : List Entry) (i : Place) (m : Ballot) (q : ℕ → Bool) (r : ReducedReport) (xs : List ℕ) → In r (reports_of es i m (members q xs)) →
-    (a : ℕ) × (q a ≡ true) × (report (facts_of a es) i m ≡ r)
-reports-of es i m q r [] h = absurd h
-reports-of es i m q r (a ∷ xs) h =
+pub reports-of : (at_time : ℕ → List Entry) (i : Place) (m : Ballot) (q : ℕ → Bool) (r : ReducedReport) (xs : List ℕ) → In r (reports_of at_time i m (members q xs)) →
+    (a : ℕ) × (q a ≡ true) × (report (facts_of a (at_time a)) i m ≡ r)
+reports-of at_time i m q r [] h = absurd h
+reports-of at_time i m q r (a ∷ xs) h =
     elim (cases_Bool (q a)) [
       | inl holds ↦
-          let listed : In r (report (facts_of a es) i m ∷ reports_of es i m (members q xs)) = rw holds at h in
-          elim listed [ inl here ↦ (a, holds, here) | inr there ↦ reports-of es i m q r xs there ]
-      | inr fails ↦ reports-of es i m q r xs (rw fails at h)
+          let listed : In r (report (facts_of a (at_time a)) i m ∷ reports_of at_time i m (members q xs)) = rw holds at h in
+          elim listed [ inl here ↦ (a, holds, here) | inr there ↦ reports-of at_time i m q r xs there ]
+      | inr fails ↦ reports-of at_time i m q r xs (rw fails at h)
     ]
 
 pub Voices-out : (k : Ballot) (t : TxId) (x : Mark) (rs : List ReducedReport) → Voices rs k t x → (r : ReducedReport) × In r rs × (r.ballot ≡ k) × (mark_of t r.marks ≡ Some x)
@@ -124,4 +124,24 @@ all_fast r rs h is =
     elim (Below-cases fast r.ballot) [
       | inl over ↦ absurd (top-most r rs h (rw is over))
       | inr rest ↦ elim rest [ inl same ↦ sym same | inr under ↦ absurd (Below-fast r.ballot under) ]
+    ]
+
+pub length-members : (q : ℕ → Bool) (xs : List ℕ) → length (members q xs) ≡ count q xs
+length-members q [] = refl
+length-members q (x ∷ xs) =
+    elim (cases_Bool (q x)) [ inl e ↦ rw e (omega (arith, length-members q xs)) | inr e ↦ rw e (omega (arith, length-members q xs)) ]
+
+pub count-members : (q p : ℕ → Bool) (xs : List ℕ) → count p (members q xs) ≡ count (λ a. q a && p a) xs
+count-members q p [] = refl
+count-members q p (x ∷ xs) =
+    elim (cases_Bool (q x)) [ inl e ↦ rw e (omega (arith, count-members q p xs)) | inr e ↦ rw e (omega (arith, count-members q p xs)) ]
+
+pub members-in : (q : ℕ → Bool) (a : ℕ) (xs : List ℕ) → In a (members q xs) → (q a ≡ true) × In a xs
+members-in q a [] h = absurd h
+members-in q a (x ∷ xs) h =
+    elim (cases_Bool (q x)) [
+      | inl e ↦
+          let listed : (x ≡ a) ⊎ In a (members q xs) = rw e at h in
+          elim listed [ inl here ↦ (sym (ap q here) ∙ e, inl here) | inr there ↦ ((members-in q a xs there).0, inr (members-in q a xs there).1) ]
+      | inr e ↦ let listed : In a (members q xs) = rw e at h in ((members-in q a xs listed).0, inr (members-in q a xs listed).1)
     ]

@@ -1,14 +1,14 @@
 -- The structures of one ballot extend one another, and the votes of a centre there are one of them.
 use Rattle.std.proofs.Common.{◌≡◌, ℕ, ◌==◌, true, ◌&&◌, List, [], ◌∷◌, ◌++◌, refl, sym, ap, ◌∙◌, subst, inl, inr, ◌⊎◌, Some, None}
-use Rattle.std.proofs.lemmas.Bool.{cases_Bool, and_parts, and_from, false≢true, eqb-true}
+use Rattle.std.proofs.lemmas.Bool.{cases_Bool, and_parts, and_from, eqb-true, false≢true}
 use Rattle.mdcc_base.specs.Ballot.{ballot_eq}
 use Rattle.mdcc_base.specs.declared.identifiers.Ballot.{Ballot}
 use Rattle.mdcc_base.specs.declared.identifiers.TxId.{TxId}
 use Rattle.mdcc_option.specs.declared.choices.Mark.{Mark}
 use Rattle.mdcc_agreement.proofs.Ballots.{fast, Below}
-use Rattle.mdcc_agreement.proofs.LedgersGrow.{Grown-extends}
+use Rattle.mdcc_agreement.proofs.LedgersGrow.{Grown-extends, unfinished-before}
 use Rattle.mdcc_agreement.proofs.Setups.{Setup}
-use Rattle.mdcc_agreement.proofs.ReducedFacts.{ReducedFact, Booted, Promised, Voted, Heard, Adopted, marks_at, votes}
+use Rattle.mdcc_agreement.proofs.ReducedFacts.{ReducedFact, Booted, Floor, Promised, Voted, Heard, Adopted, marks_at, votes}
 use Rattle.mdcc_agreement.proofs.ReducedLedger.{Entry, Happened, Begun, Valued, facts_of, WasSent, last_sent, IsBacked, MayVote, MayHappen, Allowed}
 use Rattle.mdcc_agreement.proofs.ReducedOptions.{Place, place_eq, Extends}
 use Rattle.mdcc_agreement.proofs.TestsDecide.{Decides-place, Decides-ballot}
@@ -59,6 +59,7 @@ chain s (Valued b j l sent ∷ es) i m last marks allowed is h =
 -- a fact is a vote at a ballot, or adds nothing there
 pub marks_at-cases : (f : ReducedFact) (i : Place) (k : Ballot) → ((marks : List (TxId × Mark)) × (f ≡ Voted i k marks)) ⊎ (marks_at f i k ≡ [])
 marks_at-cases (Booted e) i k = inr refl
+marks_at-cases (Floor origin era upto) i k = inr refl
 marks_at-cases (Promised key low high l) i k = inr refl
 marks_at-cases (Heard t o) i k = inr refl
 marks_at-cases (Adopted key version base deltas) i k = inr refl
@@ -81,7 +82,7 @@ backed_here : (s : Setup) (es : List Entry) (b a : ℕ) (f : ReducedFact) (fs : 
     f ≡ Voted i k marks → fs ≡ facts_of b es → Below fast k → MayVote s es b i k marks → IsBacked es (f ∷ fs) i k
 backed_here s es b a f fs i k marks fact facts classic may =
     let h : IsBacked es (Voted i k marks ∷ facts_of b es) i k = may.backed classic in
-    record { marks = h.marks; sent = h.sent; same = λ t. rw (fact, facts) (h.same t) }
+    record { marks = h.marks; sent = h.sent; within = λ t x g. h.within t x (rw (fact, facts) at g); whole = λ t x fresh g. rw (fact, facts) (h.whole t x (rw (fact, facts) at fresh) g) }
 
 -- the votes of a centre at a classic ballot are a structure that was sent
 pub backed : (s : Setup) (es : List Entry) (a : ℕ) (i : Place) (k : Ballot) →
@@ -89,10 +90,10 @@ pub backed : (s : Setup) (es : List Entry) (a : ℕ) (i : Place) (k : Ballot) �
 backed s [] a i k classic allowed vote = absurd vote
 backed s (Begun b t cs ∷ es) a i k classic allowed vote =
     let h : IsBacked es (facts_of a es) i k = backed s es a i k classic allowed.0 vote in
-    record { marks = h.marks; sent = h.sent; same = h.same }
+    record { marks = h.marks; sent = h.sent; within = h.within; whole = h.whole }
 backed s (Valued b j l marks ∷ es) a i k classic allowed vote =
     let h : IsBacked es (facts_of a es) i k = backed s es a i k classic allowed.0 vote in
-    record { marks = h.marks; sent = inr h.sent; same = h.same }
+    record { marks = h.marks; sent = inr h.sent; within = h.within; whole = h.whole }
 backed s (Happened b f ∷ es) a i k classic allowed vote =
     elim (cases_Bool (b == a)) [
       | inl e ↦
@@ -100,14 +101,14 @@ backed s (Happened b f ∷ es) a i k classic allowed vote =
           λ here. backed_here s es b a f (facts_of a es) i k here.0 here.1 (ap (λ z. facts_of z es) (sym (eqb-true b a e))) classic
           (subst (MayHappen s es b) here.1 allowed.1) in
           rw e (elim (marks_at-cases f i k) [
-            | inl here ↦ (let h : IsBacked es (f ∷ facts_of a es) i k = now here in record { marks = h.marks; sent = h.sent; same = h.same })
+            | inl here ↦ (let h : IsBacked es (f ∷ facts_of a es) i k = now here in record { marks = h.marks; sent = h.sent; within = h.within; whole = h.whole })
             | inr other ↦ elim (HasVoted-cases f (facts_of a es) i k (rw e at vote)) [
-              | inl here ↦ (let h : IsBacked es (f ∷ facts_of a es) i k = now here in record { marks = h.marks; sent = h.sent; same = h.same })
+              | inl here ↦ (let h : IsBacked es (f ∷ facts_of a es) i k = now here in record { marks = h.marks; sent = h.sent; within = h.within; whole = h.whole })
               | inr before ↦
                   let h : IsBacked es (facts_of a es) i k = backed s es a i k classic allowed.0 before in
-                  record { marks = h.marks; sent = h.sent; same = λ t. rw (other, append-none (votes (facts_of a es) i k)) (h.same t) }
+                  record { marks = h.marks; sent = h.sent; within = λ t x g. h.within t x (rw (other, append-none (votes (facts_of a es) i k)) at g); whole = λ t x fresh g. rw (other, append-none (votes (facts_of a es) i k)) (h.whole t x (unfinished-before f (facts_of a es) t fresh) g) }
             ]
           ])
       | inr e ↦ rw e (let h : IsBacked es (facts_of a es) i k = backed s es a i k classic allowed.0 (rw e at vote) in
-          record { marks = h.marks; sent = h.sent; same = h.same })
+          record { marks = h.marks; sent = h.sent; within = h.within; whole = h.whole })
     ]

@@ -1,8 +1,8 @@
 -- A structure that is allowed may be sent in the reduced ledger.
-use Rattle.std.proofs.Common.{◌≡◌, ℕ, ◌<◌, ◌≤◌, ◌==◌, Bool, true, false, ◌&&◌, List, [], ◌∷◌, length, refl, sym, ap, ◌∙◌, subst, arith, inl, inr, ◌⊎◌, Option, Some, None}
-use Rattle.std.proofs.lemmas.Bool.{cases_Bool, false≢true, and_parts, ltb-true, leb-false, eqb-true}
+use Rattle.std.proofs.Common.{◌≡◌, ℕ, ◌<◌, ◌≤◌, ◌==◌, Bool, true, false, ◌&&◌, List, [], ◌∷◌, length, refl, sym, ap, ◌∙◌, subst, arith, inl, inr, ◌⊎◌, Option, Some, None, cond, map, ◌++◌, ◌||◌}
+use Rattle.std.proofs.lemmas.Bool.{cases_Bool, and_parts, ltb-true, leb-false, eqb-true, eq-eqb, not-true, false≢true}
 use Rattle.std.proofs.lemmas.List.{length-map}
-use Rattle.std.specs.List.{list_all, filter, fold}
+use Rattle.std.specs.List.{list_all, filter, fold, AllByRecursion, list_any}
 use Rattle.std.specs.Option.{option_or}
 use Rattle.std.specs.Prelude.{is_some, not}
 use Rattle.mdcc_base.specs.Ballot.{ballot_eq, is_fast}
@@ -20,7 +20,7 @@ use Rattle.mdcc_struct.specs.Forced.{forced_of}
 use Rattle.mdcc_struct.specs.Maps.{TxMap, value_of, with_entry}
 use Rattle.mdcc_struct.specs.declared.options.Options.{Options}
 use Rattle.mdcc_struct.specs.declared.report.Report.{Report}
-use Rattle.mdcc_ledger.specs.AllowedStructures.{are_begun, is_own_mark, has_promised, promisers_of, reports_at, IsFirstStructure, IsNextStructure}
+use Rattle.mdcc_ledger.specs.AllowedStructures.{are_begun, is_own_mark, has_promised, promisers_of, IsFirstStructure, IsNextStructure, IsReport, are_distinct, centres_of, has_promised_in}
 use Rattle.mdcc_protocol.specs.Facts as full
 use Rattle.mdcc_ledger.specs.Ledger as ledger
 use Rattle.mdcc_protocol.specs.Marks.{accepts_in, rejects_in}
@@ -30,7 +30,7 @@ use Rattle.mdcc_protocol.proofs.EnoughPromises.{enough-cases, enough-classic}
 use Rattle.mdcc_struct.proofs.Values.{entry_value, value_of-with_entry}
 use Rattle.mdcc_agreement.proofs.BallotOrder.{Below-cases, Below-fast}
 use Rattle.mdcc_agreement.proofs.Ballots.{fast, Below}
-use Rattle.mdcc_agreement.proofs.Reduction.{setup_of, reduced, facts_same}
+use Rattle.mdcc_agreement.proofs.Reduction.{setup_of, reduced, facts_same, tail_after}
 use Rattle.mdcc_agreement.proofs.FitsBound.{FitsExactly}
 use Rattle.mdcc_agreement.proofs.ForcedReduced.{forced_there, there_forced}
 use Rattle.mdcc_agreement.proofs.HeldReduced.{AllFine}
@@ -40,11 +40,13 @@ use Rattle.mdcc_agreement.proofs.VotesReduced.{begun_choice, place_for}
 use Rattle.mdcc_agreement.proofs.CentresCounted.{is_one_of, one_of-In, length-members}
 use Rattle.mdcc_agreement.proofs.ForcedCounted.{Once-forced}
 use Rattle.mdcc_agreement.proofs.Setups.{IsSetup, centres_to}
-use Rattle.mdcc_agreement.proofs.ReducedFacts.{HasPromised}
-use Rattle.mdcc_agreement.proofs.ReducedLedger.{last_sent, IsChoice, Step, Grown, MayAdd, IsMore, IsFirst, IsNext, Allowed}
+use Rattle.mdcc_agreement.proofs.ReducedFacts.{HasPromised, HasHeard}
+use Rattle.mdcc_agreement.proofs.ReducedLedger.{last_sent, IsChoice, Step, Grown, MayAdd, IsMore, IsFirst, IsNext, Allowed, IsTail}
 use Rattle.mdcc_agreement.proofs.ReducedOptions.{In, Place, spot, mark_of}
-use Rattle.mdcc_agreement.proofs.TestsDecide.{Decides-tx, Decides-key, Decides-ballot, same_place}
+use Rattle.mdcc_agreement.proofs.TestsDecide.{same_place, Decides-tx, Decides-key, Decides-ballot}
 use Rattle.mdcc_agreement.proofs.ViewsReduced.{promised_reduced}
+use Rattle.mdcc_base.specs.declared.key.Key.{Key}
+use Rattle.mdcc_agreement.proofs.FloorsReduced.{has_heard}
 
 -- the last structure
 pub last_same : (es : List ledger.Entry) (i : Place) (m : Ballot) → last_sent (reduced es) i m ≡ ledger.structure_valued es i.key i.version m
@@ -98,11 +100,16 @@ more_same m t x none u =
           rw (e, back) (or_none (value_of m u) ∙ sym (mark_value u m))
     ]
 
+first_false : (p q : Bool) → (p || q) ≡ false → p ≡ false
+first_false true q h = h
+first_false false q h = refl
+
 some_not : {X : Type 0} (o : Option X) → is_some o ≡ false → o ≡ None
 some_not None h = refl
 some_not (Some x) h = absurd (false≢true (sym h))
 
-module _ (cluster : Cluster) (four : length cluster.schema ≤ 4) (es : List ledger.Entry) (a : ℕ) (fine : AllFine (ledger.facts_of es a)) (i : Place) where
+module _ (cluster : Cluster) (four : length cluster.schema ≤ 4) (es : List ledger.Entry) (allowed : Allowed (setup_of cluster) (reduced es)) (a : ℕ) (centre : In a (centres_to cluster.quorums.centres))
+    (fine : AllFine (ledger.facts_of es a)) (i : Place) where
   abbrev own_facts : List Fact
   own_facts = ledger.facts_of es a
 
@@ -112,7 +119,7 @@ module _ (cluster : Cluster) (four : length cluster.schema ≤ 4) (es : List led
   -- what a claim does
   abbrev Adds : Options → TxId × Option Choice → Type 0
   Adds options claim =
-      (value_of options claim.0 ≡ None)
+      ((value_of options claim.0 ≡ None) × (full.is_settled own_facts claim.0 ≡ false))
       × (structures.is_left_out options (structures.mark_of_choice cluster own_facts i.key i.version options claim.1) ≡ false)
       × (claimed options claim ≡ with_entry options (claim.0, structures.mark_of_choice cluster own_facts i.key i.version options claim.1))
 
@@ -120,9 +127,12 @@ module _ (cluster : Cluster) (four : length cluster.schema ≤ 4) (es : List led
   claim_cases options (t, o) =
       elim (cases_Bool (is_some (value_of options t))) [
         | inl e ↦ inl (rw e refl)
-        | inr e ↦ elim (cases_Bool (structures.is_left_out options (structures.mark_of_choice cluster own_facts i.key i.version options o))) [
-          | inl f ↦ inl (rw (e, f) refl)
-          | inr f ↦ inr (some_not (value_of options t) e, f, rw (e, f) refl)
+        | inr e ↦ elim (cases_Bool (full.is_settled own_facts t)) [
+          | inl known ↦ inl (rw (e, known) refl)
+          | inr fresh ↦ elim (cases_Bool (structures.is_left_out options (structures.mark_of_choice cluster own_facts i.key i.version options o))) [
+            | inl f ↦ inl (rw (e, fresh, f) refl)
+            | inr f ↦ inr ((some_not (value_of options t) e, fresh), f, rw (e, fresh, f) refl)
+          ]
         ]
       ]
 
@@ -147,11 +157,13 @@ module _ (cluster : Cluster) (four : length cluster.schema ≤ 4) (es : List led
       let p1 = and_parts _ _ p2.0 in
       (eqb-true _ _ p1.0, ltb-true _ _ p1.1, p2.1)
 
-  may_add : (options : Options) (t : TxId) (o : Option Choice) (x : Mark) → structures.mark_of_choice cluster own_facts i.key i.version options o ≡ x → value_of options t ≡ None →
+  may_add : (options : Options) → Once options → (t : TxId) (o : Option Choice) (x : Mark) → full.is_settled own_facts t ≡ false → structures.mark_of_choice cluster own_facts i.key i.version options o ≡ x → value_of options t ≡ None →
       structures.is_left_out options x ≡ false → ((c : Choice) → x ≡ Accept c → (c.tx ≡ t) × (spot c ≡ i) × IsChoice (reduced es) c) →
       MayAdd (setup_of cluster) (reduced es) a i options t x
-  may_add options t o x made none left own = record {
+  may_add options once t o x fresh made none left own = record {
     new = mark_value t options ∙ none;
+    centre = centre;
+    unheard = λ heard. has_heard own_facts t (first_false (full.is_heard own_facts t) (full.is_finished own_facts t) fresh) (subst (λ fs. HasHeard fs t) (facts_same a es) heard);
     has_place = place_for options options x (λ u. refl)
         (λ c is.
         let few : length (accepts_in options) < structures.accept_room c.update = (accepted_parts options c (accepted_choice options o c (made ∙ is))).1 in
@@ -160,7 +172,7 @@ module _ (cluster : Cluster) (four : length cluster.schema ≤ 4) (es : List led
     fits = λ c is.
         let parts = accepted_parts options c (accepted_choice options o c (made ∙ is)) in
         let mine : (c.tx ≡ t) × (spot c ≡ i) × IsChoice (reduced es) c = own c is in
-        leader_fit cluster four es a fine i options t c mine.0 mine.1 mine.2 parts.0 parts.2;
+        leader_fit cluster four es allowed a fine i options once t c mine.0 mine.1 mine.2 parts.0 parts.2;
   }
 
   -- what stands in a structure stays in it
@@ -190,13 +202,13 @@ module _ (cluster : Cluster) (four : length cluster.schema ≤ 4) (es : List led
             let after : Options = with_entry options (claim.0, structures.mark_of_choice cluster own_facts i.key i.version options claim.1) in
             let found : value_of (claimed options claim) claim.0 ≡ Some x =
             ap (λ os. value_of os claim.0) adds.2 ∙ value_of-with_entry options (claim.0, structures.mark_of_choice cluster own_facts i.key i.version options claim.1) claim.0
-            ∙ ap (λ o. option_or o (entry_value (claim.0, structures.mark_of_choice cluster own_facts i.key i.version options claim.1) claim.0)) adds.0
+            ∙ ap (λ o. option_or o (entry_value (claim.0, structures.mark_of_choice cluster own_facts i.key i.version options claim.1) claim.0)) adds.0.0
             ∙ (let test : tx_eq claim.0 claim.0 ≡ true = tx_true claim.0 claim.0 refl in rw test refl) in
             let may : MayAdd (setup_of cluster) (reduced es) a i options claim.0 x =
-            may_add options claim.0 claim.1 x refl adds.0 adds.1 (λ c is. own claim.0 c (found ∙ ap Some is)) in
+            may_add options once claim.0 claim.1 x adds.0.1 refl adds.0.0 adds.1 (λ c is. own claim.0 c (found ∙ ap Some is)) in
             let more : IsMore options claim.0 x after = record {
               apart = Once-Distinct after (Once-with_entry options (claim.0, structures.mark_of_choice cluster own_facts i.key i.version options claim.1) once);
-              same = more_same options claim.0 (structures.mark_of_choice cluster own_facts i.key i.version options claim.1) adds.0;
+              same = more_same options claim.0 (structures.mark_of_choice cluster own_facts i.key i.version options claim.1) adds.0.0;
             } in
             subst (λ os. GrownTo base os × Once os) (sym adds.2) (
               (record { before = options; tx = claim.0; mark = structures.mark_of_choice cluster own_facts i.key i.version options claim.1 } ∷ grown.0, (grown.1, may, more)),
@@ -232,36 +244,111 @@ classic_ballot m h =
       ]
     ]
 
+-- ---- the moments of the reports
+
+-- when a centre of these reports reported
+abbrev moment : (before : List ledger.Entry) (key : Key) (version : ℕ) (ballot : Ballot) (reports : List Report) → AllByRecursion (IsReport before key version ballot) reports → ℕ → List ledger.Entry
+moment before key version ballot [] h a = before
+moment before key version ballot (r ∷ rs) h a = cond (r.centre == a) h.0.1 (moment before key version ballot rs h.1 a)
+
+moment_tail : (before : List ledger.Entry) (key : Key) (version : ℕ) (ballot : Ballot) (reports : List Report) (h : AllByRecursion (IsReport before key version ballot) reports) (a : ℕ) →
+    (later : List ledger.Entry) × (before ≡ later ++ moment before key version ballot reports h a)
+moment_tail before key version ballot [] h a = ([], refl)
+moment_tail before key version ballot (r ∷ rs) h a =
+    elim (cases_Bool (r.centre == a)) [
+      | inl e ↦ (h.0.0, h.0.2.parts ∙ rw e refl)
+      | inr e ↦ (let rest : (later : List ledger.Entry) × (before ≡ later ++ moment before key version ballot rs h.1 a) = moment_tail before key version ballot rs h.1 a in (rest.0, rest.1 ∙ rw e refl))
+    ]
+
+moment_promised : (before : List ledger.Entry) (key : Key) (version : ℕ) (ballot : Ballot) (reports : List Report) (h : AllByRecursion (IsReport before key version ballot) reports) (a : ℕ) → In a (centres_of reports) →
+    list_any (has_promised_in key version ballot) (ledger.facts_of (moment before key version ballot reports h a) a) ≡ true
+moment_promised before key version ballot [] h a g = absurd g
+moment_promised before key version ballot (r ∷ rs) h a g =
+    elim (cases_Bool (r.centre == a)) [
+      | inl e ↦ rw e (subst (λ b. list_any (has_promised_in key version ballot) (ledger.facts_of h.0.1 b) ≡ true) (eqb-true r.centre a e) h.0.2.promised)
+      | inr e ↦ elim g [
+        | inl here ↦ absurd (false≢true (sym e ∙ eq-eqb r.centre a here))
+        | inr there ↦ rw e (moment_promised before key version ballot rs h.1 a there)
+      ]
+    ]
+
+-- reports of different centres are what their centres told at these moments
+told_same : (before : List ledger.Entry) (key : Key) (version : ℕ) (ballot : Ballot) (reports : List Report) (h : AllByRecursion (IsReport before key version ballot) reports) →
+    are_distinct (centres_of reports) ≡ true → (at : ℕ → List ledger.Entry) → ((a : ℕ) → In a (centres_of reports) → at a ≡ moment before key version ballot reports h a) →
+    map (λ a. full.report_of a (ledger.facts_of (at a) a) key version ballot) (centres_of reports) ≡ reports
+told_same before key version ballot [] h distinct at same = refl
+told_same before key version ballot (r ∷ rs) h distinct at same =
+    let parts : (not (list_any (λ b. r.centre == b) (centres_of rs)) ≡ true) × (are_distinct (centres_of rs) ≡ true) = and_parts _ _ distinct in
+    let here : (r.centre == r.centre) ≡ true = eq-eqb r.centre r.centre refl in
+    let first : at r.centre ≡ h.0.1 = same r.centre (inl refl) ∙ rw here refl in
+    let told : full.report_of r.centre (ledger.facts_of (at r.centre) r.centre) key version ballot ≡ r =
+    ap (λ es. full.report_of r.centre (ledger.facts_of es r.centre) key version ballot) first ∙ sym h.0.2.same in
+    let rest : map (λ a. full.report_of a (ledger.facts_of (at a) a) key version ballot) (centres_of rs) ≡ rs =
+    told_same before key version ballot rs h.1 parts.1 at (λ a g. same a (inr g) ∙
+    (let other : (r.centre == a) ≡ false = elim (cases_Bool (r.centre == a)) [
+      | inl e ↦ absurd (false≢true (sym (not-true (list_any (λ b. r.centre == b) (centres_of rs)) parts.0) ∙ any_In (λ b. r.centre == b) (centres_of rs) a g e))
+      | inr e ↦ e
+    ] in rw other refl)) in
+    both_same told rest
+  where
+    both_same : {x y : Report} {xs ys : List Report} → x ≡ y → xs ≡ ys → x ∷ xs ≡ y ∷ ys
+    both_same h g i = h i ∷ g i
+
+    any_In : (p : ℕ → Bool) (xs : List ℕ) (a : ℕ) → In a xs → p a ≡ true → list_any p xs ≡ true
+    any_In p [] a k e = absurd k
+    any_In p (x ∷ xs) a k e =
+        elim (cases_Bool (p x)) [
+          | inl f ↦ rw f refl
+          | inr f ↦ rw f (elim k [ inl same ↦ absurd (false≢true (sym f ∙ ap p same ∙ e)) | inr there ↦ any_In p xs a there e ])
+        ]
+
 module _ (cluster : Cluster) (sizes : IsSetup (setup_of cluster)) (four : length cluster.schema ≤ 4) (es : List ledger.Entry) (allowed : Allowed (setup_of cluster) (reduced es))
-    (a : ℕ) (fine : AllFine (ledger.facts_of es a)) (i : Place) (m : Ballot) (options : Options) (own : Own es i options) where
-  pub first_sent : is_fast m ≡ false → (centres : List ℕ) (claims : TxMap (Option Choice)) → IsFirstStructure cluster es a i.key i.version m options centres claims → IsFirst (setup_of cluster) (reduced es) a i m options
-  first_sent classic centres claims h =
-      let among : (b : ℕ) → In b centres → In b (centres_to cluster.quorums.centres) × (has_promised es i.key i.version m b ≡ true) = λ b g.
+    (a : ℕ) (centre : In a (centres_to cluster.quorums.centres)) (fine : AllFine (ledger.facts_of es a))
+    (all_fine : (later earlier : List ledger.Entry) → es ≡ later ++ earlier → (b : ℕ) → AllFine (ledger.facts_of earlier b))
+    (i : Place) (m : Ballot) (options : Options) (own : Own es i options) where
+  pub first_sent : is_fast m ≡ false → (reports : List Report) (claims : TxMap (Option Choice)) → IsFirstStructure cluster es a i.key i.version m options reports claims → IsFirst (setup_of cluster) (reduced es) a i m options
+  first_sent classic reports claims h =
+      let centres : List ℕ = centres_of reports in
+      let among : (b : ℕ) → In b (centres_of reports) → In b (centres_to cluster.quorums.centres) × (has_promised es i.key i.version m b ≡ true) = λ b g.
       In-filtered (has_promised es i.key i.version m) b (all_centres cluster.quorums)
       (one_of-In b (promisers_of cluster.quorums es i.key i.version m)
-      (all_In (λ c. is_one_of (promisers_of cluster.quorums es i.key i.version m) c) centres h.promised.0 b g)) in
-      let within : (b : ℕ) → In b centres → In b (centres_to cluster.quorums.centres) = λ b g. (among b g).0 in
-      let rs : List Report = reports_at es i.key i.version m centres in
-      let base : Options = forced_of cluster.quorums (reports_at es i.key i.version m centres) in
-      let once : Once (forced_of cluster.quorums (reports_at es i.key i.version m centres)) = Once-forced cluster.quorums rs in
-      let grown : GrownTo cluster four es a fine i base options =
-      subst (GrownTo cluster four es a fine i base) (sym h.made)
-      (all_claimed cluster four es a fine i (structures.all_claims claims rs) base base once (subst (Own es i) h.made own) ([], refl)) in
-      let length_same : length rs ≡ length centres = length-map centres (λ b. full.report_of b (ledger.facts_of es b) i.key i.version m) in
-      let promises : cluster.quorums.classic ≤ length centres =
-      subst (λ n. cluster.quorums.classic ≤ n) length_same (enough-classic cluster (ledger.facts_of es a) i.key i.version rs sizes.classic_parts h.enough) in
+      (all_In (λ c. is_one_of (promisers_of cluster.quorums es i.key i.version m) c) (centres_of reports) h.promised.0 b g)) in
+      let within : (b : ℕ) → In b (centres_of reports) → In b (centres_to cluster.quorums.centres) = λ b g. (among b g).0 in
+      let earlier : ℕ → List ledger.Entry = moment es i.key i.version m reports h.reported in
+      let from : (b : ℕ) → IsTail (reduced (moment es i.key i.version m reports h.reported b)) (reduced es) = λ b.
+      let t : (later : List ledger.Entry) × (es ≡ later ++ moment es i.key i.version m reports h.reported b) = moment_tail es i.key i.version m reports h.reported b in
+      subst (λ z. IsTail (reduced (moment es i.key i.version m reports h.reported b)) (reduced z)) (sym t.1) (tail_after t.0 (moment es i.key i.version m reports h.reported b)) in
+      let fine_at : (b : ℕ) → AllFine (ledger.facts_of (moment es i.key i.version m reports h.reported b) b) = λ b.
+      let t : (later : List ledger.Entry) × (es ≡ later ++ moment es i.key i.version m reports h.reported b) = moment_tail es i.key i.version m reports h.reported b in
+      all_fine t.0 (moment es i.key i.version m reports h.reported b) t.1 b in
+      let same : map (λ b. full.report_of b (ledger.facts_of (moment es i.key i.version m reports h.reported b) b) i.key i.version m) (centres_of reports) ≡ reports =
+      told_same es i.key i.version m reports h.reported h.promised.1 (moment es i.key i.version m reports h.reported) (λ b g. refl) in
+      let base : Options = forced_of cluster.quorums reports in
+      let once : Once (forced_of cluster.quorums reports) = Once-forced cluster.quorums reports in
+      let grown : GrownTo cluster four es allowed a centre fine i base options =
+      subst (GrownTo cluster four es allowed a centre fine i base) (sym h.made)
+      (all_claimed cluster four es allowed a centre fine i (structures.all_claims claims reports) base base once (subst (Own es i) h.made own) ([], refl)) in
+      let length_same : length reports ≡ length (centres_of reports) = sym (length-map reports (λ r. r.centre)) in
+      let promises : cluster.quorums.classic ≤ length (centres_of reports) =
+      subst (λ n. cluster.quorums.classic ≤ n) length_same (enough-classic cluster (ledger.facts_of es a) i.key i.version reports sizes.classic_parts h.enough) in
       record {
         none = last_same es i m ∙ h.none_before;
-        quorum = is_one_of centres;
-        enough = omega (arith, promises, length-members cluster.quorums.centres centres h.promised.1 within);
-        promised = λ b g. subst (λ fs. HasPromised fs i m) (sym (facts_same b es)) (promised_reduced (ledger.facts_of es b) i m (among b (one_of-In b centres g)).1);
+        centre = centre;
+        quorum = is_one_of (centres_of reports);
+        enough = omega (arith, promises, length-members cluster.quorums.centres (centres_of reports) h.promised.1 within);
+        at_time = λ b. reduced (moment es i.key i.version m reports h.reported b);
+        before = λ b g. from b;
+        promised = λ b g. subst (λ fs. HasPromised fs i m) (sym (facts_same b (moment es i.key i.version m reports h.reported b)))
+            (promised_reduced (ledger.facts_of (moment es i.key i.version m reports h.reported b) b) i m (moment_promised es i.key i.version m reports h.reported b (one_of-In b (centres_of reports) g)));
         base = base;
         apart = Once-Distinct base once;
-        forced = λ t x g. mark_value t base ∙ forced_there cluster es allowed sizes i m classic centres h.promised.1 within promises t x g;
-        forced_only = λ t x g. there_forced cluster es allowed sizes i m classic centres h.promised.1 within promises t x (sym (mark_value t base) ∙ g);
-        together = elim (enough-cases cluster (ledger.facts_of es a) i.key i.version rs h.enough) [
-          | inl many ↦ inl (omega (arith, many, length_same, length-members cluster.quorums.centres centres h.promised.1 within))
-          | inr both ↦ inr (together_reduced cluster four es a fine i base both.1)
+        forced = λ t x g. mark_value t base ∙ subst (λ rs. value_of (forced_of cluster.quorums rs) t ≡ Some x) same
+            (forced_there cluster es allowed sizes i m classic (centres_of reports) h.promised.1 within promises (moment es i.key i.version m reports h.reported) from fine_at t x g);
+        forced_only = λ t x g. there_forced cluster es allowed sizes i m classic (centres_of reports) h.promised.1 within promises (moment es i.key i.version m reports h.reported) from fine_at t x
+            (subst (λ rs. value_of (forced_of cluster.quorums rs) t ≡ Some x) (sym same) (sym (mark_value t base) ∙ g));
+        together = elim (enough-cases cluster (ledger.facts_of es a) i.key i.version reports h.enough) [
+          | inl many ↦ inl (omega (arith, many, length_same, length-members cluster.quorums.centres (centres_of reports) h.promised.1 within))
+          | inr both ↦ inr (together_reduced cluster four es allowed a fine i base once both.1)
         ];
         steps = grown.0;
         grown = grown.1;
@@ -269,9 +356,9 @@ module _ (cluster : Cluster) (sizes : IsSetup (setup_of cluster)) (four : length
 
   pub next_sent : (last : Options) (claim : TxId × Option Choice) → Once last → IsNextStructure cluster es a i.key i.version m options last claim → IsNext (setup_of cluster) (reduced es) a i m options
   next_sent last claim once h =
-      let grown : GrownTo cluster four es a fine i last options =
-      subst (GrownTo cluster four es a fine i last) (sym h.made)
-      (one_claim cluster four es a fine i last last claim once (subst (Own es i) h.made own) ([], refl)).0 in
+      let grown : GrownTo cluster four es allowed a centre fine i last options =
+      subst (GrownTo cluster four es allowed a centre fine i last) (sym h.made)
+      (one_claim cluster four es allowed a centre fine i last last claim once (subst (Own es i) h.made own) ([], refl)).0 in
       record {
         last = last;
         is_last = last_same es i m ∙ h.last_before;

@@ -1,5 +1,5 @@
--- Versions are at most the number of entries, so that of a ledger that is not too long each version can be followed.
-use Rattle.std.proofs.Common.{◌≡◌, ℕ, suc, ◌≤◌, ◌==◌, List, [], ◌∷◌, length, refl, sym, subst, arith, inl, inr}
+-- Versions are at most the number of begun transactions, so that of a ledger with not too many each version can be followed.
+use Rattle.std.proofs.Common.{◌≡◌, ℕ, suc, ◌≤◌, ◌-◌, ◌^◌, ◌==◌, List, [], ◌∷◌, ◌++◌, length, refl, sym, subst, arith, inl, inr}
 use Rattle.std.proofs.lemmas.Bool.{cases_Bool}
 use Rattle.mdcc_base.specs.Key.{key_eq}
 use Rattle.mdcc_base.specs.declared.identifiers.TxId.{TxId}
@@ -8,13 +8,14 @@ use Rattle.mdcc_option.specs.declared.choices.Choice.{Choice}
 use Rattle.mdcc_option.specs.declared.choices.Outcome.TheVariants.{Commit, Abort}
 use Rattle.mdcc_ledger.specs.Ledger as ledger
 use Rattle.mdcc_messages.specs.declared.facts.Fact.{Fact}
+use Rattle.mdcc_agreement.specs.Laws.{begun_in}
 use Rattle.mdcc_agreement.proofs.BegunOnce.{begun_apart}
 use Rattle.mdcc_agreement.proofs.Reduction.{reduced_fact, reduced}
 use Rattle.mdcc_agreement.proofs.ChoicesGive.{Update-is, last_version}
 use Rattle.mdcc_agreement.proofs.HeldReduced.{FineFact, AllFine}
 use Rattle.mdcc_agreement.proofs.LedgersGrow.{IsTail-same}
 use Rattle.mdcc_agreement.proofs.Setups.{Setup}
-use Rattle.mdcc_agreement.proofs.ReducedFacts.{ReducedFact, Booted, Promised, Voted, Heard, Adopted, raised, current_by, current}
+use Rattle.mdcc_agreement.proofs.ReducedFacts.{ReducedFact, Booted, Floor, Promised, Voted, Heard, Adopted, raised, current_by, current}
 use Rattle.mdcc_agreement.proofs.ReducedLedger.{Entry, Happened, Begun, Valued, facts_of, WasBegun, IsTail, MayHappen, Meets, Allowed}
 use Rattle.mdcc_agreement.proofs.ReducedOptions.{In}
 
@@ -37,6 +38,7 @@ ChoicesLow es n = (t : TxId) (cs : List Choice) (c : Choice) → WasBegun es t c
 
 fact_low : (s : Setup) (es : List Entry) (n : ℕ) → CurrentLow es n → ChoicesLow es n → (a : ℕ) (f : ReducedFact) → MayHappen s es a f → (key : Key) → current_by f key ≤ n
 fact_low s es n low begun a (Booted e) may key = omega arith
+fact_low s es n low begun a (Floor origin era upto) may key = omega arith
 fact_low s es n low begun a (Promised k l h m) may key = omega arith
 fact_low s es n low begun a (Voted j k marks) may key = omega arith
 fact_low s es n low begun a (Heard t Abort) may key = omega arith
@@ -65,38 +67,72 @@ choices_more s (Begun b u ds) es n low begun meets t cs c g h =
       | inr there ↦ omega (arith, begun t cs c there h)
     ]
 
-pub low_all : (s : Setup) (es : List Entry) → Allowed s es → CurrentLow es (length es) × ChoicesLow es (length es)
+-- how many transactions were begun
+abbrev pub begun : List Entry → ℕ
+begun [] = 0
+begun (Begun b t cs ∷ es) = suc (begun es)
+begun (Valued b j l sent ∷ es) = begun es
+begun (Happened b f ∷ es) = begun es
+
+choices_after : (s : Setup) (e : Entry) (es : List Entry) → CurrentLow es (begun es) → ChoicesLow es (begun es) → Meets s es e → ChoicesLow (e ∷ es) (begun (e ∷ es))
+choices_after s (Happened b f) es low choices meets = choices
+choices_after s (Valued b j l sent) es low choices meets = choices
+choices_after s (Begun b u ds) es low choices meets = choices_more s (Begun b u ds) es (begun es) low choices meets
+
+begun_more : (e : Entry) (es : List Entry) → begun es ≤ begun (e ∷ es)
+begun_more (Happened b f) es = omega arith
+begun_more (Valued b j l sent) es = omega arith
+begun_more (Begun b u ds) es = omega arith
+
+pub low_all : (s : Setup) (es : List Entry) → Allowed s es → CurrentLow es (begun es) × ChoicesLow es (begun es)
 low_all s [] allowed = ((λ old tail a key. subst (λ y. current (facts_of a y) key ≤ 0) (sym tail) (omega arith)), (λ t cs c g h. absurd g))
 low_all s (e ∷ es) allowed =
-    let before : CurrentLow es (length es) × ChoicesLow es (length es) = low_all s es allowed.0 in (
+    let before : CurrentLow es (begun es) × ChoicesLow es (begun es) = low_all s es allowed.0 in (
       (λ old tail a key. elim tail [
-        | inl same ↦ subst (λ y. current (facts_of a y) key ≤ length (e ∷ es)) (sym same) (omega (arith, entry_low s e es (length es) before.0 before.1 allowed.1 a key))
-        | inr rest ↦ omega (arith, before.0 old rest a key)
+        | inl same ↦ subst (λ y. current (facts_of a y) key ≤ begun (e ∷ es)) (sym same) (omega (arith, begun_more e es, entry_low s e es (begun es) before.0 before.1 allowed.1 a key))
+        | inr rest ↦ omega (arith, begun_more e es, before.0 old rest a key)
       ]),
-      (λ t cs c g h. omega (arith, choices_more s e es (length es) before.0 before.1 allowed.1 t cs c g h)),
+      choices_after s e es before.0 before.1 allowed.1,
     )
 
-pub length-reduced : (es : List ledger.Entry) → length (reduced es) ≡ length es
-length-reduced [] = refl
-length-reduced (e ∷ es) = omega (arith, length-reduced es)
+-- a longer ledger has no fewer, and none has more than entries
+pub begun-after : (later earlier : List ledger.Entry) → begun_in earlier ≤ begun_in (later ++ earlier)
+begun-after [] earlier = omega arith
+begun-after (e ∷ later) earlier = omega (arith, begun-after later earlier)
 
-fine_fact : (s : Setup) (es : List Entry) → Allowed s es → length es ≤ last_version → (a : ℕ) (f : Fact) → MayHappen s es a (reduced_fact f) → FineFact f
-fine_fact s es allowed short a (Fact.Heard tx (Commit cs)) may = record {
+begun-within : (es : List ledger.Entry) → begun_in es ≤ length es
+begun-within [] = omega arith
+begun-within (ledger.Added b f ∷ es) = omega (arith, begun-within es)
+begun-within (ledger.Valued b key version ballot options ∷ es) = omega (arith, begun-within es)
+begun-within (ledger.Begun b tx choices ∷ es) = omega (arith, begun-within es)
+
+pub few-begun : (es : List ledger.Entry) → length es ≤ 2 ^ 64 - 1 → begun_in es ≤ 2 ^ 64 - 1
+few-begun es short = omega (arith, short, begun-within es)
+
+pub begun-reduced : (es : List ledger.Entry) → begun (reduced es) ≡ begun_in es
+begun-reduced [] = refl
+begun-reduced (ledger.Added b f ∷ es) = omega (arith, begun-reduced es)
+begun-reduced (ledger.Valued b key version ballot options ∷ es) = omega (arith, begun-reduced es)
+begun-reduced (ledger.Begun b tx choices ∷ es) = omega (arith, begun-reduced es)
+
+fine_fact : (s : Setup) (es : List Entry) → Allowed s es → begun es ≤ last_version → (a : ℕ) (f : Fact) → MayHappen s es a (reduced_fact f) → FineFact f
+fine_fact s es allowed few a (Fact.Heard tx (Commit cs)) may = record {
   apart = λ c d g h same. begun_apart s es tx cs allowed may.0 c d g h same;
-  low = λ c g. (let n : suc c.version ≤ length es = (low_all s es allowed).1 tx cs c may.0 g in omega arith);
+  low = λ c g. (let n : suc c.version ≤ begun es = (low_all s es allowed).1 tx cs c may.0 g in omega arith);
 }
-fine_fact s es allowed short a (Fact.Heard tx Abort) may = tt
-fine_fact s es allowed short a (Fact.Booted epoch) may = tt
-fine_fact s es allowed short a (Fact.Promised k low high ballot) may = tt
-fine_fact s es allowed short a (Fact.Voted k version ballot options offered) may = tt
-fine_fact s es allowed short a (Fact.Adopted k version item adds) may = tt
+fine_fact s es allowed few a (Fact.Heard tx Abort) may = tt
+fine_fact s es allowed few a (Fact.Booted epoch) may = tt
+fine_fact s es allowed few a (Fact.Floor centre epoch seq) may = tt
+fine_fact s es allowed few a (Fact.Promised k low high ballot) may = tt
+fine_fact s es allowed few a (Fact.Voted k version ballot options offered) may = tt
+fine_fact s es allowed few a (Fact.Adopted k version item adds) may = tt
 
-pub all_fine : (s : Setup) (es : List ledger.Entry) → Allowed s (reduced es) → length es ≤ last_version → (a : ℕ) → AllFine (ledger.facts_of es a)
-all_fine s [] allowed short a = tt
-all_fine s (ledger.Begun b tx choices ∷ es) allowed short a = all_fine s es allowed.0 (omega arith) a
-all_fine s (ledger.Valued b key version ballot options ∷ es) allowed short a = all_fine s es allowed.0 (omega arith) a
-all_fine s (ledger.Added b f ∷ es) allowed short a =
+pub all_fine : (s : Setup) (es : List ledger.Entry) → Allowed s (reduced es) → begun_in es ≤ last_version → (a : ℕ) → AllFine (ledger.facts_of es a)
+all_fine s [] allowed few a = tt
+all_fine s (ledger.Begun b tx choices ∷ es) allowed few a = all_fine s es allowed.0 (omega arith) a
+all_fine s (ledger.Valued b key version ballot options ∷ es) allowed few a = all_fine s es allowed.0 (omega arith) a
+all_fine s (ledger.Added b f ∷ es) allowed few a =
     elim (cases_Bool (b == a)) [
-      | inl e ↦ rw e (fine_fact s (reduced es) allowed.0 (omega (arith, length-reduced es)) b f allowed.1, all_fine s es allowed.0 (omega arith) a)
+      | inl e ↦ rw e (fine_fact s (reduced es) allowed.0 (omega (arith, begun-reduced es)) b f allowed.1, all_fine s es allowed.0 (omega arith) a)
       | inr e ↦ rw e (all_fine s es allowed.0 (omega arith) a)
     ]

@@ -3,7 +3,7 @@ use Rattle.std.proofs.Common.{◌≡◌, ℕ, ◌+◌, ◌≤◌, ◌==◌, Bool
 use Rattle.std.proofs.lemmas.Bool.{cases_Bool, and_parts, or_cases, leb-true, le-leb}
 use Rattle.std.specs.List.{list_any, filter_map, cons_option}
 use Rattle.std.specs.Option.{option_or}
-use Rattle.mdcc_base.specs.Ballot.{ballot_eq, ballot_lt, is_fast}
+use Rattle.mdcc_base.specs.Ballot.{ballot_eq, ballot_lt}
 use Rattle.mdcc_base.specs.Counts.{number_of}
 use Rattle.mdcc_base.specs.Key.{key_eq}
 use Rattle.mdcc_base.specs.Quorums.{all_centres, quorum_size}
@@ -27,7 +27,7 @@ use Rattle.mdcc_agreement.proofs.Setups.{count}
 use Rattle.mdcc_agreement.proofs.ReducedFacts.{greater, promised_by, promise, marks_at, votes, voted_by, voted_below, report, HasPromised}
 use Rattle.mdcc_agreement.proofs.ReducedLedger.{facts_of, IsChosen}
 use Rattle.mdcc_agreement.proofs.ReducedOptions.{Place, mark_of, gives}
-use Rattle.mdcc_agreement.proofs.TestsDecide.{Decides-key, Decides-ballot, Decides-ballot_lt}
+use Rattle.mdcc_agreement.proofs.TestsDecide.{Decides-ballot_lt, Decides-key, Decides-ballot}
 
 and_three : (p q r : Bool) → ((p && q) && r) ≡ ((q && r) && p)
 and_three true true true = refl
@@ -41,6 +41,7 @@ and_three false false false = refl
 
 marks_same : (f : Fact) (i : Place) (k : Ballot) → marks_at (reduced_fact f) i k ≡ full.marks_voted i.key i.version k f
 marks_same (Fact.Booted epoch) i k = refl
+marks_same (Fact.Floor centre epoch seq) i k = refl
 marks_same (Fact.Promised key low high ballot) i k = refl
 marks_same (Fact.Heard tx outcome) i k = refl
 marks_same (Fact.Adopted key version item adds) i k = refl
@@ -82,6 +83,7 @@ greater-comm k m =
 
 promised_same : (f : Fact) (i : Place) → promised_by (reduced_fact f) i ≡ full.ballot_promised i.key i.version f
 promised_same (Fact.Booted epoch) i = refl
+promised_same (Fact.Floor centre epoch seq) i = refl
 promised_same (Fact.Heard tx outcome) i = refl
 promised_same (Fact.Adopted key version item adds) i = refl
 promised_same (Fact.Promised key low high ballot) i =
@@ -98,6 +100,7 @@ promise_same (f ∷ fs) i =
 
 voted_same : (f : Fact) (i : Place) (m : Ballot) → voted_by (reduced_fact f) i m ≡ full.ballot_voted i.key i.version m f
 voted_same (Fact.Booted epoch) i m = refl
+voted_same (Fact.Floor centre epoch seq) i m = refl
 voted_same (Fact.Promised key low high ballot) i m = refl
 voted_same (Fact.Heard tx outcome) i m = refl
 voted_same (Fact.Adopted key version item adds) i m = refl
@@ -115,17 +118,11 @@ voted_below_same (f ∷ fs) i m =
 pub report_ballot : (a b : ℕ) (fs : List Fact) (i : Place) (m : Ballot) → (report (facts_reduced fs) i m).ballot ≡ (full.report_of a fs i.key i.version m).ballot
 report_ballot a b fs i m = voted_below_same fs i m
 
-pub report_marks : (a : ℕ) (fs : List Fact) (i : Place) (m : Ballot) (t : TxId) → is_fast m ≡ false →
-    mark_of t (report (facts_reduced fs) i m).marks ≡ value_of (full.report_of a fs i.key i.version m).votes t
-report_marks a fs i m t classic =
-    rw classic
-    (votes_same fs i (voted_below (facts_reduced fs) i m) t
-    ∙ ap (λ k. value_of (full.votes_of fs i.key i.version k) t) (voted_below_same fs i m))
-
 -- promises
 pub promised_reduced : (fs : List Fact) (i : Place) (m : Ballot) → list_any (has_promised_in i.key i.version m) fs ≡ true → HasPromised (facts_reduced fs) i m
 promised_reduced [] i m h = absurd (cc)
 promised_reduced (Fact.Booted epoch ∷ fs) i m h = promised_reduced fs i m h
+promised_reduced (Fact.Floor centre epoch seq ∷ fs) i m h = promised_reduced fs i m h
 promised_reduced (Fact.Voted key version ballot options offered ∷ fs) i m h = promised_reduced fs i m h
 promised_reduced (Fact.Heard tx outcome ∷ fs) i m h = promised_reduced fs i m h
 promised_reduced (Fact.Adopted key version item adds ∷ fs) i m h = promised_reduced fs i m h

@@ -1,6 +1,6 @@
 -- Votes, promises and reports of one centre's facts.
 use Rattle.std.proofs.Common.{◌≡◌, true, false, ◌&&◌, nat_le, List, [], ◌∷◌, ◌++◌, refl, sym, ◌∙◌, inl, inr, ◌⊎◌, Some, None}
-use Rattle.std.proofs.lemmas.Bool.{cases_Bool, and_parts, false≢true, le-leb, and_from}
+use Rattle.std.proofs.lemmas.Bool.{cases_Bool, and_parts, le-leb, and_from, false≢true}
 use Rattle.mdcc_base.specs.Ballot.{ballot_eq, ballot_lt}
 use Rattle.mdcc_base.specs.Key.{key_eq}
 use Rattle.mdcc_base.specs.TxId.{tx_eq}
@@ -9,9 +9,9 @@ use Rattle.mdcc_base.specs.declared.identifiers.TxId.{TxId}
 use Rattle.mdcc_option.specs.declared.choices.Mark.{Mark}
 use Rattle.mdcc_agreement.proofs.BallotOrder.{Below-cases, Below-irrefl, Below-trans}
 use Rattle.mdcc_agreement.proofs.Ballots.{fast, Below}
-use Rattle.mdcc_agreement.proofs.ReducedFacts.{ReducedFact, Booted, Promised, Voted, Heard, Adopted, greater, promised_by, promise, marks_at, votes, voted_by, voted_below, HasPromised}
+use Rattle.mdcc_agreement.proofs.ReducedFacts.{ReducedFact, Booted, Floor, Promised, Voted, Heard, Adopted, greater, promised_by, promise, marks_at, votes, voted_by, voted_below, HasPromised}
 use Rattle.mdcc_agreement.proofs.ReducedOptions.{Place, place_eq, mark_of}
-use Rattle.mdcc_agreement.proofs.TestsDecide.{Decides-key, Decides-place, Decides-ballot, Decides-ballot_lt}
+use Rattle.mdcc_agreement.proofs.TestsDecide.{Decides-place, Decides-ballot_lt, Decides-key, Decides-ballot}
 
 pub mark_of-append : (t : TxId) (x : Mark) (ps qs : List (TxId × Mark)) → mark_of t ps ≡ Some x → mark_of t (ps ++ qs) ≡ Some x
 mark_of-append t x [] qs h = absurd (cc)
@@ -58,6 +58,7 @@ greater-cases k m = elim (cases_Bool (ballot_lt k m)) [ inl e ↦ inr (rw e refl
 pub promise-least : (fs : List ReducedFact) (i : Place) (m : Ballot) → HasPromised fs i m → Below (promise fs i) m → ⊥
 promise-least [] i m h below = h
 promise-least (Booted e ∷ fs) i m h below = promise-least fs i m h (greater-right fast (promise fs i) m below)
+promise-least (Floor origin era upto ∷ fs) i m h below = promise-least fs i m h (greater-right fast (promise fs i) m below)
 promise-least (Heard t o ∷ fs) i m h below = promise-least fs i m h (greater-right fast (promise fs i) m below)
 promise-least (Adopted key version base deltas ∷ fs) i m h below = promise-least fs i m h (greater-right fast (promise fs i) m below)
 promise-least (Voted j l marks ∷ fs) i m h below = promise-least fs i m h (greater-right (promised_by (Voted j l marks) i) (promise fs i) m below)
@@ -76,6 +77,7 @@ abbrev pub HasVoted : List ReducedFact → Place → Ballot → Type 0
 HasVoted [] i k = ⊥
 HasVoted (Voted j l marks ∷ fs) i k = ((j ≡ i) × (l ≡ k)) ⊎ HasVoted fs i k
 HasVoted (Booted e ∷ fs) i k = HasVoted fs i k
+HasVoted (Floor origin era upto ∷ fs) i k = HasVoted fs i k
 HasVoted (Promised key low high l ∷ fs) i k = HasVoted fs i k
 HasVoted (Heard t o ∷ fs) i k = HasVoted fs i k
 HasVoted (Adopted key version base deltas ∷ fs) i k = HasVoted fs i k
@@ -84,6 +86,7 @@ HasVoted (Adopted key version base deltas ∷ fs) i k = HasVoted fs i k
 pub marks_at-shows : (f : ReducedFact) (i : Place) (k : Ballot) (t : TxId) (x : Mark) → mark_of t (marks_at f i k) ≡ Some x →
     (marks : List (TxId × Mark)) × (f ≡ Voted i k marks) × (mark_of t marks ≡ Some x)
 marks_at-shows (Booted e) i k t x h = absurd (cc)
+marks_at-shows (Floor origin era upto) i k t x h = absurd (cc)
 marks_at-shows (Promised key low high l) i k t x h = absurd (cc)
 marks_at-shows (Heard u o) i k t x h = absurd (cc)
 marks_at-shows (Adopted key version base deltas) i k t x h = absurd (cc)
@@ -108,6 +111,7 @@ votes-cases f fs i k t x h =
 pub HasVoted-cases : (f : ReducedFact) (fs : List ReducedFact) (i : Place) (k : Ballot) → HasVoted (f ∷ fs) i k →
     ((marks : List (TxId × Mark)) × (f ≡ Voted i k marks)) ⊎ HasVoted fs i k
 HasVoted-cases (Booted e) fs i k h = inr h
+HasVoted-cases (Floor origin era upto) fs i k h = inr h
 HasVoted-cases (Promised key low high l) fs i k h = inr h
 HasVoted-cases (Heard t o) fs i k h = inr h
 HasVoted-cases (Adopted key version base deltas) fs i k h = inr h
@@ -115,6 +119,7 @@ HasVoted-cases (Voted j l marks) fs i k h = elim h [ inl here ↦ (let first : j
 
 HasVoted-more : (f : ReducedFact) (fs : List ReducedFact) (i : Place) (k : Ballot) → HasVoted fs i k → HasVoted (f ∷ fs) i k
 HasVoted-more (Booted e) fs i k h = h
+HasVoted-more (Floor origin era upto) fs i k h = h
 HasVoted-more (Promised key low high l) fs i k h = h
 HasVoted-more (Heard t o) fs i k h = h
 HasVoted-more (Adopted key version base deltas) fs i k h = h
@@ -122,6 +127,7 @@ HasVoted-more (Voted j l marks) fs i k h = inr h
 
 pub HasPromised-more : (f : ReducedFact) (fs : List ReducedFact) (i : Place) (m : Ballot) → HasPromised fs i m → HasPromised (f ∷ fs) i m
 HasPromised-more (Booted e) fs i k h = h
+HasPromised-more (Floor origin era upto) fs i k h = h
 HasPromised-more (Promised key low high l) fs i k h = inr h
 HasPromised-more (Heard t o) fs i k h = h
 HasPromised-more (Adopted key version base deltas) fs i k h = h
@@ -129,6 +135,7 @@ HasPromised-more (Voted j l marks) fs i k h = h
 
 voted_by-there : (f : ReducedFact) (fs : List ReducedFact) (i : Place) (m k : Ballot) → voted_by f i m ≡ k → (k ≡ fast) ⊎ HasVoted (f ∷ fs) i k
 voted_by-there (Booted e) fs i m k h = inl (sym h)
+voted_by-there (Floor origin era upto) fs i m k h = inl (sym h)
 voted_by-there (Promised key low high l) fs i m k h = inl (sym h)
 voted_by-there (Heard t o) fs i m k h = inl (sym h)
 voted_by-there (Adopted key version base deltas) fs i m k h = inl (sym h)

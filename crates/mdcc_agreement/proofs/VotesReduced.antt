@@ -1,9 +1,9 @@
 -- A vote that is allowed may happen in the reduced ledger.
-use Rattle.std.proofs.Common.{◌≡◌, ℕ, suc, ◌+◌, ◌-◌, ◌<◌, ◌≤◌, ◌==◌, Bool, true, false, ◌&&◌, List, [], ◌∷◌, length, refl, sym, ap, ◌∙◌, subst, arith, inl, inr, ◌⊎◌, Option, Some, None}
-use Rattle.std.proofs.lemmas.Bool.{cases_Bool, false≢true, and_parts, or_cases, ltb-true, ltb-false, leb-true, eqb-true, not-true}
+use Rattle.std.proofs.Common.{cond, ◌≡◌, ℕ, suc, ◌+◌, ◌-◌, ◌<◌, ◌≤◌, ◌==◌, Bool, true, false, ◌&&◌, List, [], ◌∷◌, length, refl, sym, ap, ◌∙◌, subst, arith, inl, inr, ◌⊎◌, Option, Some, None}
+use Rattle.std.proofs.lemmas.Bool.{cases_Bool, and_parts, or_cases, ltb-true, ltb-false, eqb-true, false≢true}
 use Rattle.std.specs.List.{list_any, filter}
 use Rattle.std.specs.Option.{option_or, option_map}
-use Rattle.std.specs.Prelude.{is_some, nat_lt, not}
+use Rattle.std.specs.Prelude.{is_some, nat_lt, not, ◌||◌}
 use Rattle.mdcc_base.specs.Ballot.{ballot_eq, ballot_lt, is_fast}
 use Rattle.mdcc_base.specs.Key.{key_eq}
 use Rattle.mdcc_base.specs.TxId.{tx_eq}
@@ -21,10 +21,11 @@ use Rattle.mdcc_struct.specs.Maps.{value_of, union}
 use Rattle.mdcc_struct.specs.declared.options.Options.{Options}
 use Rattle.mdcc_protocol.specs.Fit.{parts_of}
 use Rattle.mdcc_protocol.specs.Acceptor as acceptor
+use Rattle.mdcc_protocol.specs.declared.acceptor.ProposeAnswer.{ProposeAnswer}
 use Rattle.mdcc_ledger.specs.AllowedFacts.{MayVoteFast, MayVoteClassic, are_apart}
 use Rattle.mdcc_ledger.specs.BootTest.{is_answer}
 use Rattle.mdcc_ledger.specs.AllowedLedgers.{is_fast_vote_begun, is_valued, is_valued_as}
-use Rattle.mdcc_ledger.specs.AllowedStructures.{is_begun, are_begun, is_own_mark}
+use Rattle.mdcc_ledger.specs.AllowedStructures.{is_begun, is_own_mark}
 use Rattle.mdcc_ledger.specs.AllowedFacts as facts_allowed
 use Rattle.mdcc_ledger.specs.AllowedLedgers as full_allowed
 use Rattle.mdcc_protocol.specs.Facts as full
@@ -45,11 +46,12 @@ use Rattle.mdcc_agreement.proofs.LiveAtAcceptor.{acceptor_fit}
 use Rattle.mdcc_agreement.proofs.MapValues.{mark_value, tx_true}
 use Rattle.mdcc_agreement.proofs.BegunReduced.{map_none}
 use Rattle.mdcc_agreement.proofs.Setups.{IsSetup, count}
-use Rattle.mdcc_agreement.proofs.ReducedFacts.{ReducedFact, Voted, votes, promise, IsAcceptedVote}
+use Rattle.mdcc_agreement.proofs.ReducedFacts.{ReducedFact, Voted, votes, shown, finished, promise, IsAcceptedVote}
 use Rattle.mdcc_agreement.proofs.ReducedLedger.{facts_of, WasSent, IsChoice, IsFit, Kind, is_accepted, is_rejected, OfKind, HasPlace, MayVote, Allowed}
 use Rattle.mdcc_agreement.proofs.ReducedOptions.{In, Place, spot, mark_of}
-use Rattle.mdcc_agreement.proofs.TestsDecide.{Decides-tx, Decides-key, Decides-ballot, Decides-ballot_lt, Decides-mark, Decides-choice, Decides-options, same_place}
+use Rattle.mdcc_agreement.proofs.TestsDecide.{Decides-ballot_lt, Decides-options, same_place, Decides-tx, Decides-key, Decides-ballot, Decides-mark, Decides-choice}
 use Rattle.mdcc_agreement.proofs.ViewsReduced.{votes_same, promise_same}
+use Rattle.mdcc_agreement.proofs.FloorsReduced.{shown_told, finished_same}
 
 -- ---- begun choices
 
@@ -114,10 +116,10 @@ place_for ps os x same accepted rejected k listed test ts apart of_it =
 -- ---- what the acceptor's answer says
 
 abbrev AcceptRoom : List Fact → Choice → Type 0
-AcceptRoom fs c = length (accepts_in (full.votes_of fs c.key c.version fast)) < accept_room c.update
+AcceptRoom fs c = length (accepts_in (full.shown_of fs c.key c.version fast)) < accept_room c.update
 
 abbrev RejectRoom : List Fact → Choice → Type 0
-RejectRoom fs c = length (rejects_in (full.votes_of fs c.key c.version fast)) < reject_room
+RejectRoom fs c = length (rejects_in (full.shown_of fs c.key c.version fast)) < reject_room
 
 reject_answer : (fs : List Fact) (c : Choice) (x : Mark) → is_answer x (acceptor.vote_to_reject fs c) ≡ true → (x ≡ Reject) × RejectRoom fs c
 reject_answer fs c x h =
@@ -145,11 +147,20 @@ fit_answer cluster fs c x Fit.Conflict is low h = inr (reject_answer fs c x h)
 fit_answer cluster fs c x (Fit.Limit n) is low h = absurd (false≢true h)
 fit_answer cluster fs c x (Fit.Breaks n) is low h = inr (reject_answer fs c x h)
 
+if_yes : (b : Bool) (p q : ProposeAnswer) → b ≡ true → cond b p q ≡ p
+if_yes true p q h = refl
+if_yes false p q h = absurd (false≢true h)
+
+if_no : (b : Bool) (p q : ProposeAnswer) → b ≡ false → cond b p q ≡ q
+if_no true p q h = absurd (false≢true (sym h))
+if_no false p q h = refl
+
 answered : (cluster : Cluster) (fs : List Fact) (c : Choice) (x : Mark) → is_answer x (acceptor.vote_on cluster fs c) ≡ true → Answered cluster fs c x
 answered cluster fs c x h =
     elim (cases_Bool (nat_lt c.version (full.current_of fs c.key))) [
-      | inl e ↦ inr (reject_answer fs c x (rw e at h))
-      | inr e ↦ fit_answer cluster fs c x (acceptor.fit_of cluster fs c) refl (ltb-false _ _ e) (rw e at h)
+      | inl e ↦ inr (reject_answer fs c x (ap (is_answer x) (sym (if_yes (nat_lt c.version (full.current_of fs c.key)) (acceptor.vote_to_reject fs c) (acceptor.vote_by_fit fs c (acceptor.fit_of cluster fs c)) e)) ∙ h))
+      | inr e ↦ fit_answer cluster fs c x (acceptor.fit_of cluster fs c) refl (ltb-false _ _ e)
+          (ap (is_answer x) (sym (if_no (nat_lt c.version (full.current_of fs c.key)) (acceptor.vote_to_reject fs c) (acceptor.vote_by_fit fs c (acceptor.fit_of cluster fs c)) e)) ∙ h)
     ]
 
 -- ---- a transaction without a vote has none at any ballot
@@ -165,6 +176,7 @@ later_none (Some a) (Some b) h =
 
 vote_none : (f : Fact) (key : Key) (version : ℕ) (k : Ballot) (t : TxId) → full.mark_voted key version t f ≡ None → value_of (full.marks_voted key version k f) t ≡ None
 vote_none (Fact.Booted epoch) key version k t h = refl
+vote_none (Fact.Floor centre epoch seq) key version k t h = refl
 vote_none (Fact.Promised k' low high b) key version k t h = refl
 vote_none (Fact.Heard u o) key version k t h = refl
 vote_none (Fact.Adopted k' v item adds) key version k t h = refl
@@ -179,13 +191,17 @@ vote_none (Fact.Voted k' v b os offered) key version k t h =
           rw e (map_none (λ mark. (b, mark)) (value_of os t) none)
     ]
 
-votes_none : (fs : List Fact) (key : Key) (version : ℕ) (t : TxId) → full.vote_of fs key version t ≡ None → (k : Ballot) → value_of (full.votes_of fs key version k) t ≡ None
+votes_none : (fs : List Fact) (key : Key) (version : ℕ) (t : TxId) → full.last_vote fs key version t ≡ None → (k : Ballot) → value_of (full.votes_of fs key version k) t ≡ None
 votes_none [] key version t h k = refl
 votes_none (f ∷ fs) key version t h k =
-    let both : (full.vote_of fs key version t ≡ None) × (full.mark_voted key version t f ≡ None) = later_none (full.vote_of fs key version t) (full.mark_voted key version t f) h in
+    let both : (full.last_vote fs key version t ≡ None) × (full.mark_voted key version t f ≡ None) = later_none (full.last_vote fs key version t) (full.mark_voted key version t f) h in
     value_of-union (full.votes_of fs key version k) (full.marks_voted key version k f) t
     ∙ ap (λ o. option_or o (value_of (full.marks_voted key version k f) t)) (votes_none fs key version t both.0 k)
     ∙ vote_none f key version k t both.1
+
+not_first : (p q : Bool) → not (p || q) ≡ true → not p ≡ true
+not_first true q h = h
+not_first false q h = refl
 
 none_if_not : {X : Type 0} (o : Option X) → not (is_some o) ≡ true → o ≡ None
 none_if_not None h = refl
@@ -210,12 +226,13 @@ module _ (cluster : Cluster) (sizes : IsSetup (setup_of cluster)) (four : length
       let here : spot c ≡ i = same_place (spot c) i (h.of_key, h.of_version) in
       let low : i.version ≤ full.current_of own_facts i.key = h.held in
       let free : full.promise_of own_facts i.key i.version ≡ fast = h.unpromised in
-      let none : full.vote_of own_facts i.key i.version t ≡ None = h.unvoted in
+      let fresh : full.is_forgotten own_facts i.key i.version t ≡ false = rw h.unfinished refl in
+      let none : full.last_vote own_facts i.key i.version t ≡ None = (let unvoted : full.vote_of own_facts i.key i.version t ≡ None = h.unvoted in rw fresh at unvoted) in
       let answer : Answered cluster own_facts c x = answered cluster own_facts c x (ap (is_answer x) h.answer ∙ (Decides-mark x x).1 refl) in
       let new : (k : Ballot) → mark_of t (votes reduced_facts i k) ≡ None = λ k. voted_same i k t ∙ votes_none own_facts i.key i.version t none k in
       let now : promise reduced_facts i ≡ fast = ap (λ fs. promise fs i) (facts_same a es) ∙ promise_same own_facts i ∙ free in
-      let same : (u : TxId) → mark_of u (votes reduced_facts i fast) ≡ mark_of u (full.votes_of own_facts i.key i.version fast) =
-      λ u. voted_same i fast u ∙ sym (mark_value u (full.votes_of own_facts i.key i.version fast)) in
+      let same : (u : TxId) → mark_of u (shown reduced_facts i fast) ≡ mark_of u (full.shown_of own_facts i.key i.version fast) =
+      λ u. ap (λ fs. mark_of u (shown fs i fast)) (facts_same a es) ∙ shown_told own_facts fine i fast u ∙ sym (mark_value u (full.shown_of own_facts i.key i.version fast)) in
       record {
         promise_held = λ below. Below-irrefl fast (subst (Below fast) now below);
         fast_vote = λ is. record {
@@ -223,17 +240,17 @@ module _ (cluster : Cluster) (sizes : IsSetup (setup_of cluster)) (four : length
           mark = x;
           single = refl;
           new = new;
-          has_place = place_for (votes reduced_facts i fast) (full.votes_of own_facts i.key i.version fast) x same
+          has_place = place_for (shown reduced_facts i fast) (full.shown_of own_facts i.key i.version fast) x same
               (λ d is_d. elim answer [
                 | inl yes' ↦
-                    let count_at : length (accepts_in (full.votes_of own_facts i.key i.version fast)) < accept_room c.update =
-                    subst (λ (z : Place). length (accepts_in (full.votes_of own_facts z.key z.version fast)) < accept_room c.update) here yes'.1 in
+                    let count_at : length (accepts_in (full.shown_of own_facts i.key i.version fast)) < accept_room c.update =
+                    subst (λ (z : Place). length (accepts_in (full.shown_of own_facts z.key z.version fast)) < accept_room c.update) here yes'.1 in
                     omega (arith, room_for c.update)
                 | inr no' ↦ absurd (let bad : Accept d ≡ Reject = sym is_d ∙ no'.0 in cc)
               ])
               (λ is_r. elim answer [
                 | inl yes' ↦ absurd (let bad : Reject ≡ Accept c = sym is_r ∙ yes'.0 in cc)
-                | inr no' ↦ subst (λ (z : Place). length (rejects_in (full.votes_of own_facts z.key z.version fast)) < reject_room) here no'.1
+                | inr no' ↦ subst (λ (z : Place). length (rejects_in (full.shown_of own_facts z.key z.version fast)) < reject_room) here no'.1
               ]);
           fits = λ d is_d. elim answer [
             | inr no' ↦ absurd (let bad : Accept d ≡ Reject = sym is_d ∙ no'.0 in cc)
@@ -243,7 +260,7 @@ module _ (cluster : Cluster) (sizes : IsSetup (setup_of cluster)) (four : length
                 let at_most : full.current_of own_facts i.key ≤ i.version = subst (λ (z : Place). full.current_of own_facts z.key ≤ z.version) here yes'.3 in
                 let fits : FitsFast cluster (full.base_of own_facts i.key) (full.live_of own_facts i.key i.version) c.update =
                 subst (λ (z : Place). FitsFast cluster (full.base_of own_facts z.key) (full.live_of own_facts z.key z.version) c.update) here yes'.2 in
-                subst (λ z. IsFit (setup_of cluster) (parts_of cluster.limit cluster.quorums) (cluster.quorums.fast + parts_of cluster.limit cluster.quorums - cluster.quorums.centres) (reduced es) reduced_facts (IsAcceptedVote reduced_facts i) i t z) same_choice
+                subst (λ z. IsFit (setup_of cluster) (parts_of cluster.limit cluster.quorums) (cluster.quorums.fast + parts_of cluster.limit cluster.quorums - cluster.quorums.centres) (reduced es) reduced_facts (IsAcceptedVote reduced_facts i) (IsAcceptedVote reduced_facts i) i t z) same_choice
                 (acceptor_fit cluster sizes four es allowed a fine i t c own here (begun_choice es c begun) (omega arith) fits)
           ];
         };
@@ -326,29 +343,37 @@ module _ (cluster : Cluster) (sizes : IsSetup (setup_of cluster)) (four : length
   marks_here i k os = rw ((Rattle.mdcc_agreement.proofs.TestsDecide.Decides-place i i).1 refl, (Decides-ballot k k).1 refl) refl
 
   pub classic_may : (i : Place) (k : Ballot) (options : Options) (offered : Option Choice) → is_fast k ≡ false → MayVoteClassic own_facts i.key i.version k options offered →
-      full_allowed.IsSent es i.key i.version k (union (full.votes_of own_facts i.key i.version k) options) → MayVote (setup_of cluster) (reduced es) a i k options
+      full_allowed.IsSent es own_facts i.key i.version k (union (full.votes_of own_facts i.key i.version k) options) → MayVote (setup_of cluster) (reduced es) a i k options
   classic_may i k options offered classic h valued =
       let above : ballot_lt k (full.promise_of own_facts i.key i.version) ≡ false = h.not_below in
-      let pass : (x : TxId × Mark) → In x options → not (is_some (value_of (full.votes_of own_facts i.key i.version k) x.0)) ≡ true =
-      all_pass (λ e. not (is_some (value_of (full.votes_of own_facts i.key i.version k) e.0))) options (ap length h.each_new) in
+      let pass : (x : TxId × Mark) → In x options → not (is_some (value_of (full.votes_of own_facts i.key i.version k) x.0) || full.is_finished own_facts x.0) ≡ true =
+      all_pass (λ e. not (is_some (value_of (full.votes_of own_facts i.key i.version k) e.0) || full.is_finished own_facts e.0)) options (ap length h.each_new) in
+      let after : (t : TxId) → mark_of t (votes (Voted i k options ∷ reduced_facts) i k) ≡ value_of (union (full.votes_of own_facts i.key i.version k) options) t =
+      λ t. mark_of-or t (votes reduced_facts i k) (Rattle.mdcc_agreement.proofs.ReducedFacts.marks_at (Voted i k options) i k)
+      ∙ ap (λ o. option_or o (mark_of t (Rattle.mdcc_agreement.proofs.ReducedFacts.marks_at (Voted i k options) i k))) (voted_same i k t)
+      ∙ ap (λ (ms : List (TxId × Mark)). option_or (value_of (full.votes_of own_facts i.key i.version k) t) (mark_of t ms)) (marks_here i k options)
+      ∙ ap (option_or (value_of (full.votes_of own_facts i.key i.version k) t)) (mark_value t options)
+      ∙ sym (value_of-union (full.votes_of own_facts i.key i.version k) options t) in
       record {
         promise_held = λ below. false≢true (sym above ∙ (Decides-ballot_lt k (full.promise_of own_facts i.key i.version)).1
             (subst (Below k) (ap (λ fs. promise fs i) (facts_same a es) ∙ promise_same own_facts i) below));
         fast_vote = λ is. absurd (false≢true (sym classic ∙ (Decides-ballot k fast).1 is));
         each_new = λ p g. (
-          voted_same i k p.0 ∙ none_if_not (value_of (full.votes_of own_facts i.key i.version k) p.0) (pass p g),
+          voted_same i k p.0 ∙ none_if_not (value_of (full.votes_of own_facts i.key i.version k) p.0) (not_first _ (full.is_finished own_facts p.0) (pass p g)),
           mark_value p.0 options ∙ apart_value options h.apart p g,
         );
         backed = λ above_fast. record {
           marks = valued.structure;
           sent = sent_valued es i k valued.structure valued.was;
-          same = λ t.
-              mark_of-or t (votes reduced_facts i k) (Rattle.mdcc_agreement.proofs.ReducedFacts.marks_at (Voted i k options) i k)
-              ∙ ap (λ o. option_or o (mark_of t (Rattle.mdcc_agreement.proofs.ReducedFacts.marks_at (Voted i k options) i k))) (voted_same i k t)
-              ∙ ap (λ (ms : List (TxId × Mark)). option_or (value_of (full.votes_of own_facts i.key i.version k) t) (mark_of t ms)) (marks_here i k options)
-              ∙ ap (option_or (value_of (full.votes_of own_facts i.key i.version k) t)) (mark_value t options)
-              ∙ sym (value_of-union (full.votes_of own_facts i.key i.version k) options t)
-              ∙ valued.same t
-              ∙ sym (mark_value t valued.structure);
+          within = λ t x g.
+              elim (valued.same t) [
+                | inl e ↦ mark_value t valued.structure ∙ sym e ∙ sym (after t) ∙ g
+                | inr gone ↦ absurd (let bad : None ≡ Some x = sym gone.0 ∙ sym (after t) ∙ g in cc)
+              ];
+          whole = λ t x fresh g.
+              elim (valued.same t) [
+                | inl e ↦ after t ∙ e ∙ sym (mark_value t valued.structure) ∙ g
+                | inr gone ↦ absurd (false≢true (sym fresh ∙ (ap (λ fs. finished fs t) (facts_same a es) ∙ finished_same own_facts t ∙ gone.1)))
+              ];
         };
       }

@@ -1,6 +1,6 @@
 -- An allowed ledger of three centres with one transaction. Two centres accept it at the fast ballot, too few to choose
 -- it there. They promise a ballot of centre 2, whose first structure has the mark that their votes force, and vote it
--- there. One of them hears the commit, and the third centre adopts what it then holds.
+-- there. One of them hears the commit, and the third centre adopts what it then holds. Then all hear it.
 use Rattle.std.specs.Prelude.{List, None, [], pos, ◌∷◌}
 use Rattle.mdcc_base.specs.Ballot.{fast_ballot}
 use Rattle.mdcc_base.specs.declared.identifiers.Ballot.{Ballot}
@@ -53,7 +53,9 @@ began =
 -- the newest entry first
 abbrev pub ledger : List Entry
 ledger =
-    Added 3 (Fact.Adopted key 1 item [])
+    Added 3 (Fact.Heard tx (Outcome.Commit (choice ∷ [])))
+    ∷ Added 2 (Fact.Heard tx (Outcome.Commit (choice ∷ [])))
+    ∷ Added 3 (Fact.Adopted key 1 item [])
     ∷ Added 1 (Fact.Heard tx (Outcome.Commit (choice ∷ [])))
     ∷ Added 2 (Fact.Voted key 0 ballot marks None)
     ∷ Added 1 (Fact.Voted key 0 ballot marks None)

@@ -1,5 +1,6 @@
 -- What the laws of allowed ledgers speak of.
-use Rattle.std.specs.Prelude.{Bool, IsTrue, List, Some, false, length, true, ℕ, ◌-◌, ◌^◌, ◌≡◌, ◌≤◌}
+use Rattle.std.specs.Prelude.{Bool, IsTrue, List, Some, false, true, ℕ, ◌-◌, ◌^◌, ◌≡◌, ◌≤◌}
+use Rattle.mdcc_base.specs.Counts.{number_of}
 use Rattle.mdcc_base.specs.declared.identifiers.Ballot.{Ballot}
 use Rattle.mdcc_base.specs.declared.identifiers.TxId.{TxId}
 use Rattle.mdcc_base.specs.declared.key.Key.{Key}
@@ -13,17 +14,32 @@ use Rattle.mdcc_struct.specs.declared.options.Options.{Options}
 use Rattle.mdcc_ledger.specs.AllowedLedgers.{IsAllowed, is_valued}
 use Rattle.mdcc_protocol.specs.Fit.{has_tx}
 use Rattle.mdcc_protocol.specs.IsCluster.{IsCluster}
-use Rattle.mdcc_ledger.specs.Ledger.{Entry, is_chosen_at, outcome_of}
+use Rattle.mdcc_ledger.specs.Ledger.{Entry, facts_of, is_chosen_at, outcome_of}
+use Rattle.mdcc_protocol.specs.Facts.{is_heard}
+use Rattle.mdcc_base.specs.Quorums.{all_centres}
+use Rattle.std.specs.List.{list_all}
 
--- an allowed ledger of a cluster, too short for a version to come to its end
+-- how many transactions were begun
+abbrev pub is_begin : Entry → Bool
+is_begin (Entry.Begun centre tx choices) = true
+is_begin entry = false
+
+abbrev pub begun_in : List Entry → ℕ
+begun_in entries = number_of is_begin entries
+
+-- an allowed ledger of a cluster, with too few transactions for a version to come to its end
 pub record IsLedger (cluster : Cluster) (entries : List Entry) : Type 0 where
   pub of_cluster : IsCluster cluster
   pub allowed : IsAllowed cluster entries
-  pub short : length entries ≤ 2 ^ 64 - 1
+  pub few : begun_in entries ≤ 2 ^ 64 - 1
 
 -- a quorum of the ballot gave the transaction this mark in the instance
 abbrev pub IsChosenAt : Cluster → List Entry → Key → ℕ → Ballot → TxId → Mark → Type 0
 IsChosenAt cluster entries key version ballot tx mark = IsTrue (is_chosen_at cluster.quorums entries key version ballot tx mark)
+
+-- all centres of the cluster had heard the transaction
+abbrev pub DidAllHear : Cluster → List Entry → TxId → Type 0
+DidAllHear cluster entries tx = IsTrue (list_all (λ b. is_heard (facts_of entries b) tx) (all_centres cluster.quorums))
 
 -- a leader sent this structure
 abbrev pub WasSent : List Entry → Key → ℕ → Ballot → Options → Type 0

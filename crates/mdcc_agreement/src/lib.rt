@@ -4,4 +4,5 @@
 
 pub mod accepted;
 pub mod example;
+pub mod forgotten;
 pub mod marks;

@@ -11,19 +11,24 @@ ghost use Rattle.mdcc_option.specs.declared.cluster.Cluster.{Cluster};
 ghost use Rattle.mdcc_struct.specs.Maps.{value_of};
 ghost use Rattle.mdcc_struct.specs.declared.options.Options.{Options};
 ghost use Rattle.mdcc_ledger.specs.Ledger.{Entry, choices_begun, chosen_of, outcome_of};
-ghost use Rattle.mdcc_agreement.specs.Laws.{IsChosenAt, IsCommit, IsLedger, WasSent};
+ghost use Rattle.mdcc_agreement.specs.Laws.{DidAllHear, IsChosenAt, IsCommit, IsLedger, WasSent};
 
 /// No transaction has two marks chosen in one instance. A mark that is chosen at a ballot stands in
-/// every structure of every higher ballot of that instance, and it is the one that the definition of
-/// what is chosen finds.
+/// every structure of every higher ballot of that instance that was sent before all centres had heard
+/// the transaction, and a structure that was sent later has no other mark of it. It is the one that
+/// the definition of what is chosen finds.
 pub fn one_mark()
     ensures once { (cluster : Cluster) (ledger : List Entry) → IsLedger cluster ledger →
         (key : Key) (version : ℕ) (k l : Ballot) (tx : TxId) (x y : Mark) →
         IsChosenAt cluster ledger key version k tx x → IsChosenAt cluster ledger key version l tx y → x ≡ y }
-    ensures kept { (cluster : Cluster) (ledger : List Entry) → IsLedger cluster ledger →
+    ensures kept { (cluster : Cluster) (later earlier : List Entry) → IsLedger cluster (later ++ earlier) →
         (key : Key) (version : ℕ) (k m : Ballot) (tx : TxId) (x : Mark) (options : Options) →
+        IsChosenAt cluster (later ++ earlier) key version k tx x → IsTrue (ballot_lt k m) →
+        WasSent earlier key version m options → (DidAllHear cluster earlier tx → ⊥) → value_of options tx ≡ Some x }
+    ensures no_other { (cluster : Cluster) (ledger : List Entry) → IsLedger cluster ledger →
+        (key : Key) (version : ℕ) (k m : Ballot) (tx : TxId) (x y : Mark) (options : Options) →
         IsChosenAt cluster ledger key version k tx x → IsTrue (ballot_lt k m) →
-        WasSent ledger key version m options → value_of options tx ≡ Some x }
+        WasSent ledger key version m options → value_of options tx ≡ Some y → y ≡ x }
     ensures found { (cluster : Cluster) (ledger : List Entry) → IsLedger cluster ledger →
         (key : Key) (version : ℕ) (k : Ballot) (tx : TxId) (x : Mark) →
         IsChosenAt cluster ledger key version k tx x →

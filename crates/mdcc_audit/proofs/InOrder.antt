@@ -120,6 +120,7 @@ own-outcomes (place, Fact.Heard tx outcome) e (inl is) = ap (λ (x : Saying). x.
 own-outcomes (place, Fact.Heard tx outcome) e (inr none) = elim none [ ]
 own-outcomes (place, Fact.Voted key version ballot options offered) e none = elim none [ ]
 own-outcomes (place, Fact.Booted epoch) e none = elim none [ ]
+own-outcomes (place, Fact.Floor centre epoch seq) e none = elim none [ ]
 own-outcomes (place, Fact.Promised key low high ballot) e none = elim none [ ]
 own-outcomes (place, Fact.Adopted key version item adds) e none = elim none [ ]
 
@@ -138,6 +139,7 @@ own-marks (place, Fact.Voted key version ballot options offered) e is = by_ballo
         own-mapped place key version ballot options e (subst (λ b. IsOneOf e (cond b [] (map (mark_in place key version ballot) options))) classic is)
 own-marks (place, Fact.Heard tx outcome) e none = elim none [ ]
 own-marks (place, Fact.Booted epoch) e none = elim none [ ]
+own-marks (place, Fact.Floor centre epoch seq) e none = elim none [ ]
 own-marks (place, Fact.Promised key low high ballot) e none = elim none [ ]
 own-marks (place, Fact.Adopted key version item adds) e none = elim none [ ]
 

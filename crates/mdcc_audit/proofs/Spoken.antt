@@ -35,6 +35,7 @@ all-outcomes quorums state ((place, Fact.Heard tx outcome) ∷ facts) = all-outc
 all-outcomes quorums state ((place, Fact.Voted key version ballot options offered) ∷ facts) =
     all-outcomes quorums (after_fact quorums state place (Fact.Voted key version ballot options offered)) facts
 all-outcomes quorums state ((place, Fact.Booted epoch) ∷ facts) = all-outcomes quorums state facts
+all-outcomes quorums state ((place, Fact.Floor centre epoch seq) ∷ facts) = all-outcomes quorums state facts
 all-outcomes quorums state ((place, Fact.Promised key low high ballot) ∷ facts) = all-outcomes quorums state facts
 all-outcomes quorums state ((place, Fact.Adopted key version item adds) ∷ facts) = all-outcomes quorums state facts
 
@@ -57,6 +58,7 @@ all-marks quorums state ((place, Fact.Voted key version ballot options offered) 
     ∙ sym (fold-append say_one state.marks (marks_in (place, Fact.Voted key version ballot options offered)) (flat_map marks_in facts))
 all-marks quorums state ((place, Fact.Heard tx outcome) ∷ facts) = all-marks quorums (after_fact quorums state place (Fact.Heard tx outcome)) facts
 all-marks quorums state ((place, Fact.Booted epoch) ∷ facts) = all-marks quorums state facts
+all-marks quorums state ((place, Fact.Floor centre epoch seq) ∷ facts) = all-marks quorums state facts
 all-marks quorums state ((place, Fact.Promised key low high ballot) ∷ facts) = all-marks quorums state facts
 all-marks quorums state ((place, Fact.Adopted key version item adds) ∷ facts) = all-marks quorums state facts
 
@@ -101,5 +103,6 @@ all-choices quorums state ((place, Fact.Heard tx outcome) ∷ facts) =
     ∙ ap (λ said. fold say_one said (flat_map choices_in facts)) (heard-said place state.choices tx outcome)
     ∙ sym (fold-append say_one state.choices (choices_in (place, Fact.Heard tx outcome)) (flat_map choices_in facts))
 all-choices quorums state ((place, Fact.Booted epoch) ∷ facts) = all-choices quorums state facts
+all-choices quorums state ((place, Fact.Floor centre epoch seq) ∷ facts) = all-choices quorums state facts
 all-choices quorums state ((place, Fact.Promised key low high ballot) ∷ facts) = all-choices quorums state facts
 all-choices quorums state ((place, Fact.Adopted key version item adds) ∷ facts) = all-choices quorums state facts

@@ -124,7 +124,8 @@ impl Audit {
                 offered,
             } => self.take_vote(&place, key, *version, ballot, options, offered),
             Fact::Heard { tx, outcome } => self.take_heard(&place, *tx, outcome),
-            Fact::Booted(_) | Fact::Promised { .. } | Fact::Adopted { .. } => Ok(()),
+            Fact::Booted(_) | Fact::Promised { .. } | Fact::Adopted { .. } | Fact::Floor { .. } =>
+                Ok(()),
         }
     }
 }

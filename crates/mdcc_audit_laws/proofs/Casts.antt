@@ -51,6 +51,7 @@ all-counted quorums state ((place, Fact.Voted key version ballot options offered
     ∙ sym (fold-append (count_one quorums) state.counted (casts_in (place, Fact.Voted key version ballot options offered)) (flat_map casts_in facts))
 all-counted quorums state ((place, Fact.Heard tx outcome) ∷ facts) = all-counted quorums (after_fact quorums state place (Fact.Heard tx outcome)) facts
 all-counted quorums state ((place, Fact.Booted epoch) ∷ facts) = all-counted quorums state facts
+all-counted quorums state ((place, Fact.Floor centre era seq) ∷ facts) = all-counted quorums state facts
 all-counted quorums state ((place, Fact.Promised key low high ballot) ∷ facts) = all-counted quorums state facts
 all-counted quorums state ((place, Fact.Adopted key version item adds) ∷ facts) = all-counted quorums state facts
 

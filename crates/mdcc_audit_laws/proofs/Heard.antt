@@ -122,6 +122,7 @@ tells cluster ledger h e is =
     of-fact (place, Fact.Heard tx outcome) a there (inr none) = elim none [ ]
     of-fact (place, Fact.Voted key version ballot options offered) a there none = elim none [ ]
     of-fact (place, Fact.Booted epoch) a there none = elim none [ ]
+    of-fact (place, Fact.Floor centre era seq) a there none = elim none [ ]
     of-fact (place, Fact.Promised key low high ballot) a there none = elim none [ ]
     of-fact (place, Fact.Adopted key version item adds) a there none = elim none [ ]
 

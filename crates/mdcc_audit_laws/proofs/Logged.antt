@@ -76,6 +76,7 @@ fact-elsewhere : (a : ℕ) (s : Subject) (place : Place) (fact : Fact) → (plac
 fact-elsewhere a s place (Fact.Voted key version ballot options offered) apart = first-elsewhere a place.centre s key version ballot options apart
 fact-elsewhere a s place (Fact.Heard tx outcome) apart = refl
 fact-elsewhere a s place (Fact.Booted epoch) apart = refl
+fact-elsewhere a s place (Fact.Floor origin era upto) apart = refl
 fact-elsewhere a s place (Fact.Promised key low high ballot) apart = refl
 fact-elsewhere a s place (Fact.Adopted key version item adds) apart = refl
 
@@ -93,6 +94,7 @@ no-whole a s ((place, fact) ∷ facts) whole =
     one (Fact.Voted key version ballot options offered) = first-apart a place.centre s key version ballot options (λ tx. never tx key version ballot)
     one (Fact.Heard tx outcome) = refl
     one (Fact.Booted epoch) = refl
+    one (Fact.Floor origin era upto) = refl
     one (Fact.Promised key low high ballot) = refl
     one (Fact.Adopted key version item adds) = refl
 
@@ -157,6 +159,7 @@ module _ (t : TxId) (key : Key) (version : ℕ) (ballot : Ballot) where
   fact-here a number (Fact.Voted k v b options offered) = by_test a k v b options (is_there k v b) refl
   fact-here a number (Fact.Heard tx outcome) = refl
   fact-here a number (Fact.Booted epoch) = refl
+  fact-here a number (Fact.Floor origin era upto) = refl
   fact-here a number (Fact.Promised k low high b) = refl
   fact-here a number (Fact.Adopted k v item adds) = refl
 

@@ -91,7 +91,7 @@ module _ (cluster : Cluster) where
           (λ c es ok_before fine_before entry.
           fast-own c es fine_before key version options offered
           (MatchBool-at_true (IsFastVote cluster (facts_of es c) key version options offered) (MayVoteClassic (facts_of es c) key version ballot options offered) fast entry.1.kind)
-          (MatchBool-at_true (IsTrue (is_fast_vote_begun es key version options offered)) (IsSent es key version ballot (union (votes_of (facts_of es c) key version ballot) options)) fast entry.2)
+          (MatchBool-at_true (IsTrue (is_fast_vote_begun es key version options offered)) (IsSent es (facts_of es c) key version ballot (union (votes_of (facts_of es c) key version ballot) options)) fast entry.2)
           t x there)
           a ledger ok fine is
       by_ballot false classic =
@@ -109,7 +109,7 @@ module _ (cluster : Cluster) where
           → (fast : Bool) → is_fast ballot ≡ fast → IsChoice (reduced es) choice
       by_ballot c es entry true fast =
           begun-choice es choice
-          (MatchBool-at_true (IsTrue (is_fast_vote_begun es key version options (Some choice))) (IsSent es key version ballot (union (votes_of (facts_of es c) key version ballot) options)) fast entry.2)
+          (MatchBool-at_true (IsTrue (is_fast_vote_begun es key version options (Some choice))) (IsSent es (facts_of es c) key version ballot (union (votes_of (facts_of es c) key version ballot) options)) fast entry.2)
       by_ballot c es entry false classic =
           let may : MayVoteClassic (facts_of es c) key version ballot options (Some choice) =
           MatchBool-at_false (IsFastVote cluster (facts_of es c) key version options (Some choice)) (MayVoteClassic (facts_of es c) key version ballot options (Some choice)) classic entry.1.kind in
@@ -145,6 +145,7 @@ module _ (cluster : Cluster) (ledger : List Entry) (h : IsLedger cluster ledger)
       (choices_begun ledger tx, subst (λ (z : TxId). WasBegun (reduced ledger) z (choices_begun ledger tx)) (sym own) begun, listed)
   named-begun a (Fact.Heard tx Outcome.Abort) is c named = elim named [ ]
   named-begun a (Fact.Booted epoch) is c named = elim named [ ]
+  named-begun a (Fact.Floor origin era upto) is c named = elim named [ ]
   named-begun a (Fact.Promised key low high ballot) is c named = elim named [ ]
   named-begun a (Fact.Adopted key version item adds) is c named = elim named [ ]
 

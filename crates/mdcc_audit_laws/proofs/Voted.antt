@@ -16,7 +16,7 @@ use Rattle.mdcc_option.proofs.Equal.{Decides-tx}
 use Rattle.mdcc_struct.proofs.Values.{value_of-union}
 use Rattle.mdcc_struct.specs.Maps.{union, value_of}
 use Rattle.mdcc_struct.specs.declared.options.Options.{Options}
-use Rattle.mdcc_protocol.specs.Facts.{votes_of}
+use Rattle.mdcc_protocol.specs.Facts.{is_finished, votes_of}
 use Rattle.mdcc_messages.specs.declared.facts.Fact.{Fact}
 use Rattle.mdcc_ledger.specs.AllowedFacts.{MayVoteClassic, are_apart}
 use Rattle.mdcc_ledger.specs.AllowedLedgers.{IsAllowed, IsAllowedEntry, IsSent, is_valued, is_valued_as}
@@ -63,6 +63,10 @@ none_if_not : {X : Type 0} (o : Option X) → not (is_some o) ≡ true → o ≡
 none_if_not None h = refl
 none_if_not (Some x) h = absurd (false≢true h)
 
+none_if_new : {X : Type 0} (o : Option X) (b : Bool) → not (is_some o || b) ≡ true → o ≡ None
+none_if_new None b h = refl
+none_if_new (Some x) b h = absurd (false≢true h)
+
 all_pass : (p : TxId × Mark → Bool) (xs : Options) → length (filter p xs) ≡ length xs → (x : TxId × Mark) → In x xs → p x ≡ true
 all_pass p [] h x g = absurd g
 all_pass p (y ∷ ys) h x g =
@@ -108,13 +112,19 @@ module _ (cluster : Cluster) (a : ℕ) (key : Key) (version : ℕ) (ballot : Bal
   made-here : (before : List Entry) (c : ℕ) → IsAllowedEntry cluster before (Added c vote) → WasMade before
   made-here before c entry =
       let may : MayVoteClassic (facts_of before c) key version ballot options offered = else-of _ (is_fast ballot) classic entry.1.kind in
-      let sent : IsSent before key version ballot (union (votes_of (facts_of before c) key version ballot) options) = else-of _ (is_fast ballot) classic entry.2 in
       let votes = votes_of (facts_of before c) key version ballot in
+      let sent : IsSent before (facts_of before c) key version ballot (union votes options) = else-of _ (is_fast ballot) classic entry.2 in
       let new : value_of votes t ≡ None =
-      none_if_not (value_of votes t) (all_pass (λ e. not (is_some (value_of votes e.0))) options (ap length may.each_new) (t, x) there) in (
+      none_if_new (value_of votes t) (is_finished (facts_of before c) t)
+      (all_pass (λ e. not (is_some (value_of votes e.0) || is_finished (facts_of before c) e.0)) options (ap length may.each_new) (t, x) there) in
+      let mark : value_of (union votes options) t ≡ Some x =
+      value_of-union votes options t ∙ ap (λ o. option_or o (value_of options t)) new ∙ apart_value options may.apart (t, x) there in (
         sent.structure,
         sent.was,
-        sym (sent.same t) ∙ value_of-union votes options t ∙ ap (λ o. option_or o (value_of options t)) new ∙ apart_value options may.apart (t, x) there,
+        elim (sent.same t) [
+          | inl same ↦ sym same ∙ mark
+          | inr missing ↦ absurd (let bad : None ≡ Some x = sym missing.0 ∙ mark in cc)
+        ],
       )
 
   pub made : (before : List Entry) → IsAllowed cluster before → IsOneOf vote (facts_of before a) → WasMade before
@@ -182,6 +192,7 @@ module _ (cluster : Cluster) (ledger : List Entry) (h : IsLedger cluster ledger)
       of-fact (place, Fact.Voted key version ballot options offered) a there more = of-vote place key version ballot options offered a there (is_fast ballot) refl more
       of-fact (place, Fact.Heard tx outcome) a there none = elim none [ ]
       of-fact (place, Fact.Booted epoch) a there none = elim none [ ]
+      of-fact (place, Fact.Floor centre era seq) a there none = elim none [ ]
       of-fact (place, Fact.Promised key low high ballot) a there none = elim none [ ]
       of-fact (place, Fact.Adopted key version item adds) a there none = elim none [ ]
 

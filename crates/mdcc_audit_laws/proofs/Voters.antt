@@ -67,6 +67,7 @@ VoteIn facts key version ballot t x = (options : Options) × (offered : Option C
 module _ (cluster : Cluster) (key : Key) (version : ℕ) (ballot : Ballot) (t : TxId) (x : Mark) where
   voted-here : (fact : Fact) (facts : List Fact) → value_of (marks_voted key version ballot fact) t ≡ Some x → VoteIn (fact ∷ facts) key version ballot t x
   voted-here (Fact.Booted epoch) facts h = cc
+  voted-here (Fact.Floor origin era upto) facts h = cc
   voted-here (Fact.Promised k low high b) facts h = cc
   voted-here (Fact.Heard tx outcome) facts h = cc
   voted-here (Fact.Adopted k v item adds) facts h = cc

@@ -42,6 +42,7 @@ named-more quorums s (place, Fact.Voted key version ballot options offered) =
     ∙ sym (fold-append with_tx s.named (txs_of options) (map (λ choice. choice.tx) (option_to_list offered)))
 named-more quorums s (place, Fact.Heard tx outcome) = refl
 named-more quorums s (place, Fact.Booted epoch) = refl
+named-more quorums s (place, Fact.Floor centre era seq) = refl
 named-more quorums s (place, Fact.Promised key low high ballot) = refl
 named-more quorums s (place, Fact.Adopted key version item adds) = refl
 

@@ -9,6 +9,7 @@ use Rattle.mdcc_agreement.specs.Laws.{IsLedger}
 use Rattle.mdcc_trace.proofs.Laws as trace
 use Rattle.mdcc_trace_limits.proofs.Short as limits
 use Rattle.mdcc_audit_traces.specs.Traces.{IsMoment}
+use Rattle.mdcc_agreement.proofs.VersionsLow.{few-begun}
 
 allowed-before : (cluster : Cluster) (later earlier : List Entry) → IsAllowed cluster (later ++ earlier) → IsAllowed cluster earlier
 allowed-before cluster [] earlier ok = ok
@@ -25,5 +26,5 @@ moment-ledger cluster is events ledger (later, parts) =
     record {
       of_cluster = is;
       allowed = allowed-before cluster later ledger (subst (IsAllowed cluster) parts (trace.allowed cluster is events));
-      short = omega (arith, whole, less);
+      few = few-begun ledger (omega (arith, whole, less));
     }

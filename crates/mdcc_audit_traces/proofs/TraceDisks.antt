@@ -18,6 +18,7 @@ use Rattle.mdcc_worlds.specs.Events.{IsBetween}
 use Rattle.mdcc_worlds.specs.Words.{IsGivenEvent}
 use Rattle.mdcc_audit_traces.proofs.Read.{disks-audited}
 use Rattle.mdcc_audit_traces.specs.Disks.{AreAudited, HaveLogs}
+use Rattle.mdcc_agreement.proofs.VersionsLow.{few-begun}
 
 next-between : (event : Event) (events : List Event) (h : Happened) → ((next : Happened) → after_event h.world event ≡ Ok next → IsBetween (run_from events (after_lines h.lines next)).world)
     → IsBetween h.world → IsBetween (run_from (event ∷ events) h).world
@@ -41,7 +42,7 @@ module _ (cluster : Cluster) (is : IsCluster cluster) (events : List Event) wher
   of-cluster = (trace.holds cluster is events).same
 
   ledger-after : IsLedger cluster after.ledger
-  ledger-after = record { of_cluster = is; allowed = trace.allowed cluster is events; short = limits.ledger-short cluster is events }
+  ledger-after = record { of_cluster = is; allowed = trace.allowed cluster is events; few = few-begun after.ledger (limits.ledger-short cluster is events) }
 
   pub trace-audited : AllByRecursion IsGivenEvent events → (disks : AllMemory) → HaveLogs disks after → AreAudited cluster after.ledger disks
   trace-audited given disks show =

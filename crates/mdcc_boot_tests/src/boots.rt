@@ -1,12 +1,13 @@
 //! Boots from a few payloads.
 ghost use Rattle.std.specs.Prelude.{[]};
 
-use crate::setup::{BOOTED, HEARD, PROMISED, five_centres};
+use crate::setup::{BOOTED, FLOOR, HEARD, PROMISED, five_centres};
 use mdcc_admission::loading::are_short;
 use mdcc_admission::parts_belong::is_centre;
 use mdcc_base::{Centre, HeapList};
 use mdcc_counted_facts::CountedFacts;
-use mdcc_facts::{FactStore, ListFacts};
+use mdcc_facts::FactStore;
+use mdcc_list_facts::ListFacts;
 use mdcc_messages::Fact;
 use mdcc_node::{BootFault, Node};
 use std::alloc::Global;
@@ -14,7 +15,7 @@ use std::process::Abort;
 use std::test::*;
 
 // Of no kind of facts.
-const NO_FACT: [u8; 1] = [6];
+const NO_FACT: [u8; 1] = [7];
 
 // The payloads of a log.
 fn logged(alloc: Global, payloads: &[&[u8]]) -> Result<Vec<HeapList<u8>>, Fail> {
@@ -105,6 +106,21 @@ fn no_run(rt: HostRuntime) -> Result<(), Fail> {
     assert_eq!(rt;
         booted(&rt, alloc, &[&PROMISED])?,
         Err(BootFault::NotARun(1))
+    );
+    Ok(())
+}
+
+// No floor may stand in a log yet, whatever was heard before it.
+#[test]
+fn a_floor_is_refused(rt: HostRuntime) -> Result<(), Fail> {
+    let alloc = rt.alloc();
+    assert_eq!(rt;
+        booted(&rt, alloc, &[&BOOTED, &HEARD, &FLOOR])?,
+        Err(BootFault::NotARun(3))
+    );
+    assert_eq!(rt;
+        booted_within(&rt, alloc, 2, &[&BOOTED, &FLOOR])?,
+        Err(BootFault::NotARun(2))
     );
     Ok(())
 }

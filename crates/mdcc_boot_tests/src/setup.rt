@@ -14,6 +14,9 @@ pub const PROMISED: [u8; 28] = [
 /// Heard that transaction 1.1.1 aborted.
 pub const HEARD: [u8; 11] = [4, 1, 1, 0, 0, 0, 1, 0, 0, 0, 0];
 
+/// All centres have heard the transactions of epoch 1 of centre 1 through number 1.
+pub const FLOOR: [u8; 10] = [6, 1, 1, 0, 0, 0, 1, 0, 0, 0];
+
 /// Five centres and one attribute.
 pub fn five_centres(rt: &impl Abort) -> Cluster {
     Cluster {

@@ -112,6 +112,7 @@ same-payloads first second all more e f = cc
 -- the payload of a boot has five bytes
 pub boot-length : (fact : Fact) (payload : List ℕ) → IsBoot fact → payload ≡ fact_bytes fact → length payload ≡ 5
 boot-length (Fact.Booted epoch) payload boot e = rw e refl
+boot-length (Fact.Floor origin era upto) payload boot e = absurd boot
 boot-length (Fact.Promised key low high ballot) payload boot e = absurd boot
 boot-length (Fact.Voted key version ballot options offered) payload boot e = absurd boot
 boot-length (Fact.Heard tx outcome) payload boot e = absurd boot

@@ -32,7 +32,7 @@ use Rattle.mdcc_rules.specs.declared.node.StepFault.{StepFault}
 use Rattle.mdcc_run_laws.proofs.Epoch.{run_keeps}
 use Rattle.mdcc_run_laws.proofs.Joined.{node_after_run, run_joined}
 use Rattle.mdcc_run_laws.specs.Inputs.{asked_input, asked_inputs, asked_message_input, begin_input, own_input, own_inputs, own_message_input, tick_input, turn_inputs}
-use Rattle.mdcc_runs.specs.Arrivals.{Arrival, arrival_of, is_for_client}
+use Rattle.mdcc_runs.specs.Arrivals.{Arrival, arrival_of, is_not_taken}
 use Rattle.mdcc_runs.specs.Clients.{Clients, begun_for, known_of, with_begun, with_end, with_end_by}
 use Rattle.mdcc_runs.specs.Runs.{NodeState, after_run, after_step, listed, run_of, step_on}
 use Rattle.mdcc_runs.specs.Sending.{answer_to}
@@ -331,7 +331,7 @@ module _ (laws : StepLaws) (others : OthersBeginNothing) (config : Config) (G : 
   input-at inputs site input w plain h = input-at-by laws others config G es a node inputs site input (step_on config.cluster site.centre site.node input) w plain h refl
 
   own-message-at : (inputs : List Input) (site : Site) (x : Envelope) → Each IsWellFormedInput (own_message_input x) → On inputs site → On (inputs ++ own_message_input x) (own_message config site x).site
-  own-message-at inputs site x w h = by-kind (is_for_client x.message) w
+  own-message-at inputs site x w h = by-kind (is_not_taken x.message) w
     where
       by-kind : (b : Bool) → Each IsWellFormedInput (cond b [] (Input.Message x ∷ [])) → On (inputs ++ cond b [] (Input.Message x ∷ [])) (cond b (dropped site) (input_taken config site (Input.Message x))).site
       by-kind true k = nothing inputs site h
@@ -420,6 +420,8 @@ module _ (laws : StepLaws) (others : OthersBeginNothing) (config : Config) (G : 
   asked-message-at inputs site (Message.Escalate key version tx cause) request w h = nothing inputs site h
   asked-message-at inputs site (Message.Ask tx key version) request w h = nothing inputs site h
   asked-message-at inputs site (Message.SyncAsk key) request w h = nothing inputs site h
+  asked-message-at inputs site (Message.Mark origin era upto) request w h = nothing inputs site h
+  asked-message-at inputs site (Message.Finished ended) request w h = nothing inputs site h
 
   asked-arrived-at : (inputs : List Input) (site : Site) (arrival : Arrival) → ((x : Envelope) → arrival ≡ Arrival.Whole x → CameAsked G a x.message) → Each IsWellFormedInput (asked_input config site arrival) → On inputs site → On (inputs ++ asked_input config site arrival) (asked_arrived config site arrival).site
   asked-arrived-at inputs site Arrival.Piece whole w h = nothing inputs site h

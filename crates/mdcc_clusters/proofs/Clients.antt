@@ -16,7 +16,7 @@ use Rattle.mdcc_rules.specs.Steps.{NodeStep, heard_by}
 use Rattle.mdcc_rules.specs.declared.node.Answer.{Answer}
 use Rattle.mdcc_rules.specs.declared.node.Input.{Input}
 use Rattle.mdcc_rules.specs.declared.node.StepFault.{StepFault}
-use Rattle.mdcc_runs.specs.Arrivals.{Arrival, arrival_of, is_for_client}
+use Rattle.mdcc_runs.specs.Arrivals.{Arrival, arrival_of, is_not_taken}
 use Rattle.mdcc_runs.specs.Clients.{Clients, begun_for, known_of, with_begun, with_end, with_end_by}
 use Rattle.mdcc_runs.specs.Runs.{step_on}
 use Rattle.mdcc_runs.specs.Sites.{Site, idle}
@@ -100,7 +100,7 @@ module _ (config : Config) where
   input-kept site input = made-kept site (step_on config.cluster site.centre site.node input)
 
   own-message-kept : (site : Site) (x : Envelope) → Kept site (own_message config site x).site
-  own-message-kept site x = by-kind (is_for_client x.message)
+  own-message-kept site x = by-kind (is_not_taken x.message)
     where
       by-kind : (b : Bool) → Kept site (cond b (dropped site) (input_taken config site (Input.Message x))).site
       by-kind true = λ serial tx f. f
@@ -153,6 +153,8 @@ module _ (config : Config) where
   asked-message-kept site (Message.Escalate key version t cause) = λ s tx f. f
   asked-message-kept site (Message.Ask t key version) = λ s tx f. f
   asked-message-kept site (Message.SyncAsk key) = λ s tx f. f
+  asked-message-kept site (Message.Mark origin era upto) = λ s tx f. f
+  asked-message-kept site (Message.Finished ended) = λ s tx f. f
 
   asked-arrived-kept : (site : Site) (arrival : Arrival) → Kept site (asked_arrived config site arrival).site
   asked-arrived-kept site Arrival.Piece = λ serial tx f. f

@@ -1,5 +1,6 @@
 -- How many entries of each centre a ledger has, and how many steps each centre did.
 use Rattle.std.proofs.Common.{List, [], ap, arith, false, inl, inr, length, refl, subst, suc, sym, true, zero, ℕ, ◌*◌, ◌+◌, ◌++◌, ◌<◌, ◌==◌, ◌∙◌, ◌∷◌, ◌≡◌, ◌≤◌}
+use Rattle.mdcc_agreement.specs.Laws.{begun_in}
 use Rattle.std.specs.Prelude.{if◌then◌else◌}
 use Rattle.std.proofs.lemmas.Bool.{cases_Bool, eq-eqb, eqb-true}
 use Rattle.mdcc_base.specs.Counts.{number_of}
@@ -163,6 +164,12 @@ begun-number [] = refl
 begun-number (Added a fact ∷ es) = let h = begun-number es in omega (arith, h)
 begun-number (Entry.Begun a tx choices ∷ es) = let h = begun-number es in omega (arith, h)
 begun-number (Valued a key version ballot options ∷ es) = let h = begun-number es in omega (arith, h)
+
+pub begun-counted : (es : List Entry) → begun_in es ≡ length (begun_by es)
+begun-counted [] = refl
+begun-counted (Added a fact ∷ es) = let h = begun-counted es in omega (arith, h)
+begun-counted (Entry.Begun a tx choices ∷ es) = let h = begun-counted es in omega (arith, h)
+begun-counted (Valued a key version ballot options ∷ es) = let h = begun-counted es in omega (arith, h)
 
 pub plain-long : (es : List Entry) → length (plain_by es) ≤ length es
 plain-long [] = omega arith

@@ -1,8 +1,7 @@
 -- The moves of the examples are executions.
-use Rattle.std.proofs.Common.{Bool, List, [], false, length, refl, true, ℕ, ◌^◌, ◌∷◌, ◌≡◌}
+use Rattle.std.proofs.Common.{Bool, List, [], false, refl, true, ℕ, ◌-◌, ◌^◌, ◌∷◌, ◌≡◌}
 use Rattle.std.specs.Prelude.{nat_le}
 use Rattle.std.proofs.lemmas.Bool.{leb-true}
-use Rattle.mdcc_messages.specs.declared.facts.Fact.{Fact}
 use Rattle.mdcc_runs.specs.Acts.{Act}
 use Rattle.mdcc_runs.specs.declared.lines.ServerLine.{ServerLine}
 use Rattle.mdcc_clusters.proofs.Executed.{executed-by}
@@ -28,9 +27,9 @@ crash-lines false = refl
 
 -- ---- short enough
 
-by-tests : (done : List (ℕ × Act)) (durable : List (ℕ × Fact)) → nat_le (steps_done done) (2 ^ 30) ≡ true → nat_le (length durable) (2 ^ 62) ≡ true → IsShort done durable
-by-tests done durable s f = record { steps = leb-true (steps_done done) (2 ^ 30) s; facts = leb-true (length durable) (2 ^ 62) f }
+by-test : (done : List (ℕ × Act)) → nat_le (steps_done done) (2 ^ 64 - 1) ≡ true → IsShort done
+by-test done s = record { steps = leb-true (steps_done done) (2 ^ 64 - 1) s }
 
-pub crash-short : (logged : Bool) → IsShort (after_moves three_centres not_started (crash logged)).done (after_moves three_centres not_started (crash logged)).durable
-crash-short true = by-tests (after_moves three_centres not_started (crash true)).done (after_moves three_centres not_started (crash true)).durable refl refl
-crash-short false = by-tests (after_moves three_centres not_started (crash false)).done (after_moves three_centres not_started (crash false)).durable refl refl
+pub crash-short : (logged : Bool) → IsShort (after_moves three_centres not_started (crash logged)).done
+crash-short true = by-test (after_moves three_centres not_started (crash true)).done refl
+crash-short false = by-test (after_moves three_centres not_started (crash false)).done refl

@@ -134,6 +134,7 @@ heard-new (Some (Fact.Heard t outcome)) facts tx commits e =
     let c : commits ≡ is_commit outcome = ap (λ (z : TxId × Bool). z.1) both in
     record { outcome = outcome; one_of = inl (ap (λ (z : TxId). Fact.Heard z outcome) s); same = c }
 heard-new (Some (Fact.Booted n)) facts tx commits e = absurd (cc)
+heard-new (Some (Fact.Floor origin era upto)) facts tx commits e = absurd (cc)
 heard-new (Some (Fact.Promised k lo hi m)) facts tx commits e = absurd (cc)
 heard-new (Some (Fact.Voted k v m os off)) facts tx commits e = absurd (cc)
 heard-new (Some (Fact.Adopted k v it ds)) facts tx commits e = absurd (cc)

@@ -1,5 +1,5 @@
 -- The headline for a deployed cluster.
-use Rattle.std.proofs.Common.{Bool, List, Some, [], ap, arith, false, inl, inr, length, refl, sym, true, ℕ, ◌*◌, ◌+◌, ◌-◌, ◌^◌, ◌∙◌, ◌∷◌, ◌≡◌, ◌≤◌}
+use Rattle.std.proofs.Common.{Bool, List, Some, [], ap, arith, false, inl, inr, refl, sym, true, ℕ, ◌∙◌, ◌∷◌, ◌≡◌}
 use Rattle.std.specs.List.{AllByRecursion}
 use Rattle.mdcc_agreement.specs.Laws.{IsLedger}
 use Rattle.mdcc_base.specs.declared.identifiers.TxId.{TxId}
@@ -29,9 +29,7 @@ use Rattle.mdcc_clusters.specs.Clusters.{Deployment, after_moves, not_started}
 use Rattle.mdcc_clusters.specs.Executions.{IsTrueAct, IsTrueBy, IsTrueDatagram, IsTrueExecution, IsTrueMessage, TruthFromLaws, WasSent}
 use Rattle.mdcc_groups.specs.Groups.{IsHeardIn}
 use Rattle.mdcc_clusters.specs.Headline.{HeadlineFromLaws, IsReported, IsReportedAnswer, IsReportedBy, IsReportedMessage, JoinsTruth, LedgerLaws, TellsTruth}
-use Rattle.mdcc_clusters.specs.Limits.{IsShort, most_beside, most_of_step, steps_done}
 use Rattle.mdcc_clusters.specs.Mail.{AreMail, IsMail, IsPieceIn, Mail}
-use Rattle.std.proofs.lemmas.Nat.{mul-le}
 
 -- what is in a list has entries before it and after it
 was-heard : (es : List Entry) (a : ℕ) (tx : TxId) (outcome : Outcome) → In (Added a (Fact.Heard tx outcome)) es → WasHeard es a tx outcome
@@ -83,6 +81,8 @@ module _ (laws : LedgerLaws) (config : Config) (ledger : List Entry) (is : IsLed
   mail-reported epoch envelope (Message.Escalate key version tx cause) h = tt
   mail-reported epoch envelope (Message.Ask tx key version) h = tt
   mail-reported epoch envelope (Message.SyncAsk key) h = tt
+  mail-reported epoch envelope (Message.Mark origin era upto) h = tt
+  mail-reported epoch envelope (Message.Finished ended) h = tt
 
   act-reported : (a : ℕ) (act : Act) → IsTrueBy config done ledger mail a act → IsReportedBy config done ledger act
   act-reported a (Act.Print line) h = line-reported a line h
@@ -149,16 +149,6 @@ module _ (laws : LedgerLaws) (config : Config) (ledger : List Entry) (is : IsLed
 pub tells : (laws : LedgerLaws) (config : Config) (ledger : List Entry) → IsLedger config.cluster ledger → (done : List (ℕ × Act)) (durable : List (ℕ × Fact)) → IsTrueExecution config done durable ledger → TellsTruth config done ledger
 tells laws config ledger is done durable t = tells-truth laws config ledger is t.mail done t.heads t.acts
 
-ledger-short : (ledger : List Entry) (done : List (ℕ × Act)) (durable : List (ℕ × Fact)) → IsShort done durable → length ledger ≤ length durable + most_beside (steps_done done) → length ledger ≤ 2 ^ 64 - 1
-ledger-short ledger done durable short few =
-    let steps = short.steps in
-    let facts = short.facts in
-    let most = mul-le (steps_done done) (most_of_step (steps_done done)) 1073741824 8589936640 (omega (arith, steps)) (omega (arith, steps)) in
-    sum (length ledger) (length durable) (most_beside (steps_done done)) few facts most
-  where
-    sum : (l d p : ℕ) → l ≤ d + p → d ≤ 2 ^ 62 → p ≤ 1073741824 * 8589936640 → l ≤ 2 ^ 64 - 1
-    sum l d p h k m = omega (arith, h, k, m)
-
 pub headline : TruthFromLaws → HeadlineFromLaws
 headline every laws ledger_laws config is moves h =
     let found = every laws config is moves h in
@@ -168,5 +158,5 @@ headline every laws ledger_laws config is moves h =
       ledger = found.0;
       true_of = found.1;
       asked_for = found.2;
-      headline = λ short. tells ledger_laws config found.0 (record { of_cluster = cluster; allowed = found.1.sound.legal; short = ledger-short found.0 state.done state.durable short found.1.few }) state.done state.durable found.1;
+      headline = λ short. tells ledger_laws config found.0 (record { of_cluster = cluster; allowed = found.1.sound.legal; few = omega (arith, short.steps, found.1.begun) }) state.done state.durable found.1;
     }

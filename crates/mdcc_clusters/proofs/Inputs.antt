@@ -29,7 +29,7 @@ use Rattle.mdcc_run_laws.proofs.Tables.{own_holds}
 use Rattle.mdcc_run_laws.specs.Brought.{AreBytes, BringsRequest, HoldsBytes, asked_datagrams}
 use Rattle.mdcc_run_laws.specs.Inputs.{asked_input, asked_inputs, asked_message_input, begin_input, own_inputs, tick_input, turn_inputs}
 use Rattle.mdcc_runs.specs.Acts.{Act}
-use Rattle.mdcc_runs.specs.Arrivals.{Arrival, arrival_of, is_for_client, message_in}
+use Rattle.mdcc_runs.specs.Arrivals.{Arrival, arrival_of, is_not_taken, message_in}
 use Rattle.mdcc_runs.specs.Clients.{begun_for}
 use Rattle.mdcc_runs.specs.Runs.{listed}
 use Rattle.mdcc_runs.specs.Sites.{Site}
@@ -63,7 +63,7 @@ message-fine config G es a epoch envelope input told is =
     subst (IsFine config.cluster es) (sym is.0)
     (elim told [
       | inl t ↦ record { fair = t; formed = is.1 }
-      | inr answer ↦ absurd (true≢false (sym (ap (λ (z : Envelope). is_for_client z.message) answer.is) ∙ is.2))
+      | inr answer ↦ absurd (true≢false (sym (ap (λ (z : Envelope). is_not_taken z.message) answer.is) ∙ is.2))
     ])
 
 own-fine : Laws → (config : Config) (G : ℕ → List ℕ → Type 0) (es : List Entry) (mail : List Mail) (done : List (ℕ × Act)) (a : ℕ) (site : Site) (gave : Option (List ℕ)) → IsLive config G mail a site → MailStands es mail
@@ -86,6 +86,7 @@ pieces-came config G es mail done (Some bytes) right sent = ((piece-sent config 
 abbrev IsAsked : Cluster → Input → Type 0
 IsAsked cluster (Input.Message envelope) = ⊥
 IsAsked cluster Input.Tick = ⊥
+IsAsked cluster Input.Sweep = ⊥
 IsAsked cluster (Input.Read key) = ⊤
 IsAsked cluster (Input.Begin parts) = IsTransaction cluster.schema parts
 
@@ -110,6 +111,8 @@ message-asked config site (Message.Refused key version ballot promised) = tt
 message-asked config site (Message.Escalate key version tx cause) = tt
 message-asked config site (Message.Ask tx key version) = tt
 message-asked config site (Message.SyncAsk key) = tt
+message-asked config site (Message.Mark origin era upto) = tt
+message-asked config site (Message.Finished ended) = tt
 
 arrival-asked : (config : Config) (site : Site) (arrival : Arrival) → Each (IsAsked config.cluster) (asked_input config site arrival)
 arrival-asked config site Arrival.Piece = tt
@@ -123,6 +126,7 @@ inputs-asked config site (Some bytes) = arrival-asked config site (arrival_of (j
 asked-fine : Laws → (cluster : Cluster) (es : List Entry) (table : List Joining.Entry) (datagrams : List (List ℕ)) (input : Input) → IsAsked cluster input → BringsRequest cluster.schema table datagrams input → IsFine cluster es input
 asked-fine laws cluster es table datagrams (Input.Message envelope) asked brings = absurd asked
 asked-fine laws cluster es table datagrams Input.Tick asked brings = absurd asked
+asked-fine laws cluster es table datagrams Input.Sweep asked brings = absurd asked
 asked-fine laws cluster es table datagrams (Input.Read key) asked brings = record {
   fair = tt;
   formed = (subst (λ (m : Message). IsWellFormedMessage m) brings.is brings.came.well_formed.message).1;

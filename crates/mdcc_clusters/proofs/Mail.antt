@@ -20,7 +20,7 @@ use Rattle.mdcc_messages.specs.declared.wire.WireFault.{WireFault}
 use Rattle.mdcc_run_laws.proofs.Joining.{bytes_keep}
 use Rattle.mdcc_run_laws.specs.Brought.{AreBytes, HoldsBytes}
 use Rattle.mdcc_run_laws.specs.Inputs.{own_input, own_inputs, own_message_input}
-use Rattle.mdcc_runs.specs.Arrivals.{arrival_of, is_for_client, message_in}
+use Rattle.mdcc_runs.specs.Arrivals.{arrival_of, is_not_taken, message_in}
 use Rattle.mdcc_runs.specs.Sites.{Site}
 use Rattle.mdcc_spelling.proofs.Whole.{message_again}
 use Rattle.mdcc_trace_states.specs.Words.{Each, In}
@@ -77,7 +77,7 @@ module _ (mail : List Mail) (are : AreMail mail) where
   formed-input envelope (Ok other) is w =
       let s : other ≡ envelope = cc in
       subst (λ (z : Envelope). Each (IsMessageOf envelope) (own_message_input z)) (sym s)
-      (elim (cases_Bool (is_for_client envelope.message)) [ inl e ↦ rw e tt | inr e ↦ rw e ((refl, w, e), tt) ])
+      (elim (cases_Bool (is_not_taken envelope.message)) [ inl e ↦ rw e tt | inr e ↦ rw e ((refl, w, e), tt) ])
 
   message-input : (one : Mail) → IsMail one → (bytes : List ℕ) → bytes ≡ message_bytes one.1 → Each (IsMessageOf one.1) (own_input (message_in (view_of bytes)))
   message-input one sent bytes is = formed-input one.1 (view_of bytes) (ap view_of is ∙ message_again one.1 sent.formed) sent.formed

@@ -2,6 +2,7 @@
 use Rattle.std.proofs.Common.{List, Result, [], ap, arith, false, inl, inr, length, refl, subst, suc, sym, zero, ℕ, ◌*◌, ◌+◌, ◌++◌, ◌==◌, ◌∙◌, ◌∷◌, ◌≡◌, ◌≤◌}
 use Rattle.std.proofs.lemmas.Bool.{cases_Bool, eq-eqb, eqb-true}
 use Rattle.std.proofs.lemmas.Nat.{mul-le}
+use Rattle.mdcc_agreement.specs.Laws.{begun_in}
 use Rattle.mdcc_ledger.specs.Ledger.{Entry}
 use Rattle.mdcc_messages.specs.declared.facts.Fact.{Fact}
 use Rattle.mdcc_protocol.specs.Volatile.{Volatile}
@@ -11,7 +12,7 @@ use Rattle.mdcc_run_laws.specs.Told.{steps_made}
 use Rattle.mdcc_runs.specs.Acts.{Act}
 use Rattle.mdcc_trace_states.specs.Invariant.{IsOf}
 use Rattle.mdcc_trace_states.specs.Words.{Each}
-use Rattle.mdcc_clusters.proofs.Counting.{begun-others, begun-own, begun_by, count-both, count-no, count-yes, count_in, fewer, ledger-long, plain-others, plain-own, plain_by, steps-long, steps_at, times, times-count, times-long}
+use Rattle.mdcc_clusters.proofs.Counting.{begun-counted, begun-others, begun-own, begun_by, count-both, count-no, count-yes, count_in, fewer, ledger-long, plain-others, plain-own, plain_by, steps-long, steps_at, times, times-count, times-long}
 use Rattle.mdcc_clusters.proofs.Weights.{IsFew}
 use Rattle.mdcc_groups.specs.Groups.{added_in, entries_made}
 use Rattle.mdcc_clusters.specs.Limits.{most_beside, most_of_step, steps_done}
@@ -161,6 +162,13 @@ module _ (es : List Entry) (a : ℕ) (old done : List (ℕ × Act)) (all : (b : 
         sum x y z e h k = plus x y z (n * most_of_step (steps_done done)) (p.spent * most_of_step (steps_done done)) ((p.spent + n) * most_of_step (steps_done done)) e h k (both-times p.spent n (most_of_step (steps_done done)))
 
 -- ---- all together
+
+pub begun-within-steps : (es : List Entry) (done : List (ℕ × Act)) → ((a : ℕ) → IsPaidFor es a done) → begun_in es ≤ steps_done done
+begun-within-steps es done all =
+    let most = fewer (begun_by es) (steps_at done) (λ a. (all a).begun) in
+    let number = begun-counted es in
+    let steps = steps-long done in
+    omega (arith, most, number, steps)
 
 pub ledger-few : (es : List Entry) (durable : List (ℕ × Fact)) (done : List (ℕ × Act)) → added_in es ≡ durable → ((a : ℕ) → IsPaidFor es a done) → length es ≤ length durable + most_beside (steps_done done)
 ledger-few es durable done e all =

@@ -181,6 +181,7 @@ module _ (laws : Laws) (config : Config) (G : ℕ → List ℕ → Type 0) (es :
   epoch-small (Fact.Voted k v m os off ∷ facts) h = epoch-small facts h.1
   epoch-small (Fact.Heard t o ∷ facts) h = epoch-small facts h.1
   epoch-small (Fact.Adopted k v it ds ∷ facts) h = epoch-small facts h.1
+  epoch-small (Fact.Floor origin era upto ∷ facts) h = epoch-small facts h.1
 
   endpoint : AreQuorums config.cluster.quorums → is_centre config.cluster a ≡ true → is_endpoint a ≡ true
   endpoint sizes here =

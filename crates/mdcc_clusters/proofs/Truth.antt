@@ -14,7 +14,7 @@ use Rattle.mdcc_trace_states.specs.MessageMeaning.{Says, TrueWhenSent}
 use Rattle.mdcc_trace_states.proofs.Lists.{Each-like}
 use Rattle.mdcc_clusters.proofs.Acting.{do-goes, start-goes, stop-goes}
 use Rattle.mdcc_clusters.proofs.Moves.{Goes}
-use Rattle.mdcc_clusters.proofs.Paid.{ledger-few}
+use Rattle.mdcc_clusters.proofs.Paid.{begun-within-steps, ledger-few}
 use Rattle.mdcc_clusters.proofs.Standing.{IsLogged, IsRight, IsRightDone, log-facts}
 use Rattle.mdcc_clusters.proofs.Turning.{cut-goes, last-goes, turn-goes}
 use Rattle.mdcc_clusters.specs.Answers.{IsAnswered}
@@ -80,6 +80,8 @@ told-mail config done es old epoch envelope (Message.Refused key version ballot 
 told-mail config done es old epoch envelope (Message.Escalate key version tx cause) t s = t
 told-mail config done es old epoch envelope (Message.Ask tx key version) t s = t
 told-mail config done es old epoch envelope (Message.SyncAsk key) t s = t
+told-mail config done es old epoch envelope (Message.Mark origin era upto) t s = t
+told-mail config done es old epoch envelope (Message.Finished ended) t s = t
 
 answer-mail : (config : Config) (done : List (ℕ × Act)) (es : List Entry) (a epoch : ℕ) (envelope : Envelope) → IsAnswered config (WasReceived done) es a epoch envelope → IsTrueMessage config done es epoch envelope envelope.message
 answer-mail config done es a epoch envelope answer = subst (λ (z : Envelope). IsTrueMessage config done es epoch z z.message) (sym answer.is) answer.told
@@ -116,6 +118,7 @@ execution-true laws config is moves h =
         facts = g.stands.durable;
         sound = g.stands.sound;
         heads = g.stands.mail_stands.are;
+        begun = begun-within-steps g.es state.done g.stands.paid;
         few = ledger-few g.es state.durable state.done g.stands.durable g.stands.paid;
         acts = Each-like (IsRightDone config (WasReceived state.done) g.es g.mail) (IsTrueAct config state.done g.es g.mail) state.done (λ one r. true-act config state.done g.es g.mail one.0 one.1 r) g.stands.done;
       },

@@ -131,6 +131,7 @@ module _ (cluster : Cluster) (es : List Entry) (a : ℕ) (v : Volatile) (up : Is
   input-light : (input : Input) → opened_in v ≤ 256 → IsLightResult (most_of_step (number_of is_begin es)) 1 (step_of (here cluster a facts) v input)
   input-light (Input.Message envelope) few = light-more (step_of (here cluster a facts) v (Input.Message envelope)) (message-light cluster a facts v envelope few)
   input-light (Input.Read key) few = record { weight = omega arith; begun = omega arith; few = few }
+  input-light Input.Sweep few = record { weight = omega arith; begun = omega arith; few = few }
   input-light (Input.Begin parts) few = light-more (step_of (here cluster a facts) v (Input.Begin parts)) (begin-light cluster a facts v parts few)
   input-light Input.Tick few =
       let s = tick-small in

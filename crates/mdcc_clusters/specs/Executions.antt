@@ -1,5 +1,6 @@
 -- Which executions of a cluster are spoken of, and what is said of them.
 use Rattle.std.specs.List.{AllByRecursion}
+use Rattle.mdcc_agreement.specs.Laws.{begun_in}
 use Rattle.std.specs.Prelude.{List, None, Ok, Option, Result, Some, [], length, ⊤, ℕ, ℤ, ◌+◌, ◌++◌, ◌<◌, ◌^◌, ◌∷◌, ◌≡◌, ◌≤◌}
 use Rattle.mdcc_clusters.specs.Asked.{AreAskedFor, WasReceived}
 use Rattle.mdcc_base.specs.declared.faults.Failed.{Failed}
@@ -101,12 +102,13 @@ IsTrueAct config done es mail one = IsTrueBy config done es mail one.0 one.1
 
 -- The ledger has the facts that are durable, in the order in which they became so, with the begun transactions and the structures of the steps
 -- between them; it is as it is to be; and all that was sent and printed is true of it. All datagrams are pieces of some messages, of which no two
--- have one head, over all centres and all their lives. And it is no longer than what was done allows.
+-- have one head, over all centres and all their lives. And it begins no more transactions, and is no longer, than what was done allows.
 pub record IsTrueExecution (config : Config) (done : List (ℕ × Act)) (durable : List (ℕ × Fact)) (ledger : List Entry) : Type 0 where
   pub mail : List Mail
   pub facts : added_in ledger ≡ durable
   pub sound : IsSoundLedger IsSound config.cluster ledger
   pub heads : AreMail mail
+  pub begun : begun_in ledger ≤ steps_done done
   pub few : length ledger ≤ length durable + most_beside (steps_done done)
   pub acts : Each (IsTrueAct config done ledger mail) done
 

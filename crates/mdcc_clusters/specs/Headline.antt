@@ -105,7 +105,7 @@ pub record IsToldTruly (config : Config) (done : List (ℕ × Act)) (durable : L
   pub ledger : List Entry
   pub true_of : IsTrueExecution config done durable ledger
   pub asked_for : AreAskedFor config done ledger
-  pub headline : IsShort done durable → TellsTruth config done ledger
+  pub headline : IsShort done → TellsTruth config done ledger
 
 abbrev pub HeadlineFromLaws : Type 0
 HeadlineFromLaws =

@@ -1,6 +1,5 @@
--- How many entries the ledger of an execution may have.
-use Rattle.std.specs.Prelude.{List, [], length, ℕ, ◌*◌, ◌+◌, ◌^◌, ◌∷◌, ◌≤◌}
-use Rattle.mdcc_messages.specs.declared.facts.Fact.{Fact}
+-- How many entries the ledger of an execution may have, and how many steps it may take.
+use Rattle.std.specs.Prelude.{List, [], ℕ, ◌*◌, ◌+◌, ◌-◌, ◌^◌, ◌∷◌, ◌≤◌}
 use Rattle.mdcc_runs.specs.Acts.{Act, steps_by}
 
 -- how many steps all centres did together
@@ -17,7 +16,6 @@ most_of_step steps = 2048 + 8 * steps
 abbrev pub most_beside : ℕ → ℕ
 most_beside steps = steps * most_of_step steps
 
--- with so few steps and facts no version comes to its end
-pub record IsShort (done : List (ℕ × Act)) (durable : List (ℕ × Fact)) : Type 0 where
-  pub steps : steps_done done ≤ 2 ^ 30
-  pub facts : length durable ≤ 2 ^ 62
+-- with so few steps no version comes to its end, since a step begins at most one transaction
+pub record IsShort (done : List (ℕ × Act)) : Type 0 where
+  pub steps : steps_done done ≤ 2 ^ 64 - 1

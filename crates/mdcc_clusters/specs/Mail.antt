@@ -12,7 +12,7 @@ use Rattle.mdcc_messages.specs.declared.messages.Envelope.{Envelope}
 use Rattle.mdcc_rules.specs.declared.node.Input.{Input}
 use Rattle.mdcc_run_laws.specs.Brought.{AreBytes, HoldsBytes}
 use Rattle.mdcc_run_laws.specs.Inputs.{own_inputs}
-use Rattle.mdcc_runs.specs.Arrivals.{is_for_client}
+use Rattle.mdcc_runs.specs.Arrivals.{is_not_taken}
 use Rattle.mdcc_runs.specs.Sites.{Site}
 use Rattle.mdcc_trace_states.specs.Words.{Each, In}
 
@@ -47,7 +47,7 @@ WholeIsOfLast =
 
 -- an input that is this message, well-formed and between centres
 abbrev pub IsMessageOf : Envelope → Input → Type 0
-IsMessageOf envelope input = (input ≡ Input.Message envelope) × IsWellFormedEnvelope envelope × (is_for_client envelope.message ≡ false)
+IsMessageOf envelope input = (input ≡ Input.Message envelope) × IsWellFormedEnvelope envelope × (is_not_taken envelope.message ≡ false)
 
 -- what comes at a centre's own endpoint where only such pieces came in this life
 abbrev pub OwnInputsAreOfLast : Type 0

@@ -5,9 +5,10 @@ ghost use Rattle.mdcc_messages.specs.WellFormed.{IsWellFormedFact};
 ghost use Rattle.mdcc_counted_facts.specs.Counted.{Represents};
 
 use mdcc_base::{Ballot, HeapList, Key, Memory, TxId};
-use mdcc_facts::{FactStore, ListFacts, StoreFault};
+use mdcc_facts::{FactStore, StoreFault};
 use mdcc_journal::counts::well_formed_facts_have_counts;
 use mdcc_journal::fact_length;
+use mdcc_list_facts::ListFacts;
 use mdcc_messages::Fact;
 use mdcc_option::{Choice, Delta, Item, Mark, Outcome, Seen, WriteSet};
 use mdcc_protocol::Load;
@@ -105,12 +106,16 @@ impl FactStore for CountedFacts {
         self.list.votes(alloc, key, version, ballot)
     }
 
-    fn count_voted(&self, key: &Key, version: u64, ballot: Ballot, options: &Options) -> usize {
-        self.list.count_voted(key, version, ballot, options)
+    fn count_past(&self, key: &Key, version: u64, ballot: Ballot, options: &Options) -> usize {
+        self.list.count_past(key, version, ballot, options)
     }
 
-    fn is_heard(&self, tx: TxId) -> bool {
-        self.list.is_heard(tx)
+    fn is_settled(&self, tx: TxId) -> bool {
+        self.list.is_settled(tx)
+    }
+
+    fn finished(&self, tx: TxId) -> bool {
+        self.list.finished(tx)
     }
 
     fn ended(&self, tx: TxId) -> Option<bool> {

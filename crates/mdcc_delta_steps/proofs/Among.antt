@@ -12,7 +12,7 @@ use Rattle.mdcc_struct.proofs.Order.{tx_eq-sym}
 use Rattle.mdcc_struct.proofs.Ordered.{ascending-below, ascending-tail, value_of-below}
 use Rattle.mdcc_messages.specs.Spelling.{fact_bytes}
 use Rattle.mdcc_messages.specs.declared.facts.Fact.{Fact}
-use Rattle.mdcc_protocol.specs.Facts.{live_from}
+use Rattle.mdcc_protocol.specs.Plain.{plain_live_from}
 use Rattle.mdcc_protocol.specs.Fit.{has_tx}
 use Rattle.mdcc_protocol.specs.declared.fit.Load.{Load}
 use Rattle.mdcc_escrow.specs.Weights.{with_live}
@@ -63,7 +63,7 @@ live-any : (key : Key) (version : ℕ) (facts : List Fact) (tx : TxId) → AreWe
 live-any key version [] tx fits = refl
 live-any key version (fact ∷ facts) tx fits =
     ap (λ es. has_tx (txs_of (es ++ live_in key version (map fact_bytes facts))) tx) (live-is-read key version fact fits.0)
-    ∙ has-more (live_from key version fact) (live_in key version (map fact_bytes facts)) tx
+    ∙ has-more (plain_live_from key version fact) (live_in key version (map fact_bytes facts)) tx
     ∙ ap (λ b. is_live_by key version tx fact || b) (live-any key version facts tx fits.1)
 
 -- ---- facts
@@ -100,9 +100,9 @@ among-facts seen void key version load [] fits = refl
 among-facts seen void key version load (fact ∷ older) fits =
     ap (λ es. load_among seen void load (es ++ live_in key version (map fact_bytes older))) (live-is-read key version fact fits.0)
     ∙ among-fact seen void (is_counted void older key version) (live_in key version (map fact_bytes older))
-    (λ tx. ap (λ b. not (void tx) && not b) (live-any key version older tx fits.1)) load (live_from key version fact)
+    (λ tx. ap (λ b. not (void tx) && not b) (live-any key version older tx fits.1)) load (plain_live_from key version fact)
     (live_from-ascend key version fact (well_formed-ordered fact fits.0))
-    ∙ among-facts seen void key version (fold (with_live seen) load (filter (λ e. is_counted void older key version e.0) (live_from key version fact))) older fits.1
+    ∙ among-facts seen void key version (fold (with_live seen) load (filter (λ e. is_counted void older key version e.0) (plain_live_from key version fact))) older fits.1
 
 pub among-is-summed : (seen : List TxId) (void : TxId → Bool) (key : Key) (version : ℕ) (load : Load) (texts : List (List ℕ)) (facts : List Fact) → AreOf texts facts
     → load_among seen void load (live_in key version texts) ≡ load_steps seen void key version load facts

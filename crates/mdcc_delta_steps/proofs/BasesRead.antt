@@ -143,6 +143,7 @@ adopted-base at_key at_version key version item adds fits =
 
 pub base-is-read : (key : Key) (version : ℕ) (fact : Fact) → IsWellFormedFact fact → base_in key version (fact_bytes fact) ≡ base_from key version fact
 base-is-read key version (Fact.Booted epoch) fits = refl
+base-is-read key version (Fact.Floor origin era upto) fits = refl
 base-is-read key version (Fact.Promised other low high ballot) fits = refl
 base-is-read key version (Fact.Voted other at ballot options offered) fits = refl
 base-is-read key version (Fact.Heard tx outcome) fits = heard-base key version tx outcome fits

@@ -17,7 +17,8 @@ use Rattle.mdcc_messages.specs.Spelling.{fact_bytes, offered_bytes}
 use Rattle.mdcc_messages.specs.SpelledParts.{ballot_bytes, choice_bytes, delta_bytes, entry_bytes, item_bytes, key_bytes, options_bytes}
 use Rattle.mdcc_messages.specs.WellFormed.{IsWellFormedFact}
 use Rattle.mdcc_messages.specs.declared.facts.Fact.{Fact}
-use Rattle.mdcc_protocol.specs.Facts.{deltas_from, live_from, live_mark}
+use Rattle.mdcc_protocol.specs.Facts.{deltas_from, live_mark}
+use Rattle.mdcc_protocol.specs.Plain.{plain_live_from}
 use Rattle.mdcc_protocol.specs.Marks.{Amounts}
 use Rattle.mdcc_spelling.proofs.Places.{IsAt, apart-2, apart-5, together}
 use Rattle.mdcc_spelling.proofs.Whole.{at_front}
@@ -90,7 +91,7 @@ map-chosen f true xs = refl
 map-chosen f false xs = refl
 
 vote-read : (at_key : Key) (at_version : ℕ) (key : List ℕ) (version : ℕ) (ballot : Ballot) (options : Marks) (offered : Option Choice) → IsWellFormedFact (Fact.Voted key version ballot options offered)
-    → left_in (marks_opened at_key at_version (vote_text key version ballot options offered)) ≡ map weighed (live_from at_key at_version (Fact.Voted key version ballot options offered))
+    → left_in (marks_opened at_key at_version (vote_text key version ballot options offered)) ≡ map weighed (plain_live_from at_key at_version (Fact.Voted key version ballot options offered))
 vote-read at_key at_version key version ballot options offered fits =
     let bytes : List ℕ = vote_text key version ballot options offered in
     let there : IsVoteThere (vote_text key version ballot options offered) key version options = vote-there key version ballot options offered in
@@ -175,14 +176,16 @@ adopted-read at_key at_version key version item adds fits =
 -- the deltas of a fact are read
 pub deltas-are-read : (key : Key) (version : ℕ) (fact : Fact) → IsWellFormedFact fact → deltas_read key version (fact_bytes fact) ≡ map delta_entry (deltas_from key version fact)
 deltas-are-read key version (Fact.Booted epoch) fits = refl
+deltas-are-read key version (Fact.Floor origin era upto) fits = refl
 deltas-are-read key version (Fact.Promised other low high ballot) fits = refl
 deltas-are-read key version (Fact.Voted other at ballot options offered) fits = refl
 deltas-are-read key version (Fact.Heard tx outcome) fits = heard-read key version tx outcome fits
 deltas-are-read key version (Fact.Adopted other at item adds) fits = adopted-read key version other at item adds fits
 
 -- so are its live updates
-pub live-is-read : (key : Key) (version : ℕ) (fact : Fact) → IsWellFormedFact fact → live_read key version (fact_bytes fact) ≡ map weighed (live_from key version fact)
+pub live-is-read : (key : Key) (version : ℕ) (fact : Fact) → IsWellFormedFact fact → live_read key version (fact_bytes fact) ≡ map weighed (plain_live_from key version fact)
 live-is-read key version (Fact.Booted epoch) fits = refl
+live-is-read key version (Fact.Floor origin era upto) fits = refl
 live-is-read key version (Fact.Promised other low high ballot) fits = refl
 live-is-read key version (Fact.Voted other at ballot options offered) fits = vote-read key version other at ballot options offered fits
 live-is-read key version (Fact.Heard tx outcome) fits = heard-read key version tx outcome fits ∙ added-weighed (deltas_from key version (Fact.Heard tx outcome))

@@ -17,7 +17,8 @@ use Rattle.mdcc_messages.specs.SpelledParts.{outcome_bytes, tx_bytes}
 use Rattle.mdcc_messages.specs.WellFormed.{IsWellFormedFact}
 use Rattle.mdcc_messages.specs.WellFormedParts.{IsWellFormedOf}
 use Rattle.mdcc_messages.specs.declared.facts.Fact.{Fact}
-use Rattle.mdcc_protocol.specs.Facts.{amounts_added, delta_given, deltas_from, live_from}
+use Rattle.mdcc_protocol.specs.Facts.{amounts_added, delta_given, deltas_from}
+use Rattle.mdcc_protocol.specs.Plain.{plain_live_from}
 use Rattle.mdcc_protocol.specs.Marks.{Amounts}
 use Rattle.mdcc_spelling.proofs.Places.{IsAt, apart-2}
 use Rattle.mdcc_spelling.proofs.Whole.{at_front}
@@ -100,6 +101,7 @@ none-heard key version tx t (Outcome.Commit choices) fits other = none-given key
 pub none-of-other : (key : Key) (version : ℕ) (tx : TxId) (fact : Fact) → IsWellFormedFact fact → is_of_other tx (fact_bytes fact) ≡ true
     → value_of (deltas_from key version fact) tx ≡ None
 none-of-other key version tx (Fact.Booted epoch) fits other = absurd (cc)
+none-of-other key version tx (Fact.Floor origin era upto) fits other = absurd (cc)
 none-of-other key version tx (Fact.Promised of_key low high ballot) fits other = absurd (cc)
 none-of-other key version tx (Fact.Voted of_key at ballot options offered) fits other = absurd (cc)
 none-of-other key version tx (Fact.Heard t outcome) fits other =
@@ -108,8 +110,9 @@ none-of-other key version tx (Fact.Heard t outcome) fits other =
 none-of-other key version tx (Fact.Adopted of_key at item adds) fits other = absurd (cc)
 
 not-live-of-other : (key : Key) (version : ℕ) (tx : TxId) (fact : Fact) → IsWellFormedFact fact → is_of_other tx (fact_bytes fact) ≡ true
-    → is_some (value_of (live_from key version fact) tx) ≡ false
+    → is_some (value_of (plain_live_from key version fact) tx) ≡ false
 not-live-of-other key version tx (Fact.Booted epoch) fits other = absurd (cc)
+not-live-of-other key version tx (Fact.Floor origin era upto) fits other = absurd (cc)
 not-live-of-other key version tx (Fact.Promised of_key low high ballot) fits other = absurd (cc)
 not-live-of-other key version tx (Fact.Voted of_key at ballot options offered) fits other = absurd (cc)
 not-live-of-other key version tx (Fact.Heard t outcome) fits other =
@@ -125,7 +128,7 @@ found-unless false found says is none = is
 pub live-is-found : (key : Key) (version : ℕ) (tx : TxId) (fact : Fact) → IsWellFormedFact fact → has_live key version tx (fact_bytes fact) ≡ is_live_by key version tx fact
 live-is-found key version tx fact fits =
     found-unless (is_of_other tx (fact_bytes fact)) (is_some (value_of (live_read key version (fact_bytes fact)) tx)) (is_live_by key version tx fact)
-    (ap (λ es. is_some (value_of es tx)) (live-is-read key version fact fits) ∙ has-weighed (live_from key version fact) tx)
+    (ap (λ es. is_some (value_of es tx)) (live-is-read key version fact fits) ∙ has-weighed (plain_live_from key version fact) tx)
     (λ other. not-live-of-other key version tx fact fits other)
 
 pub amounts-are-found : (key : Key) (version : ℕ) (tx : TxId) (fact : Fact) → IsWellFormedFact fact → amounts_of key version tx (fact_bytes fact) ≡ value_of (deltas_from key version fact) tx

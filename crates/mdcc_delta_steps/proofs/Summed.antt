@@ -9,7 +9,8 @@ use Rattle.mdcc_option.specs.declared.items.Update.{Update}
 use Rattle.mdcc_struct.specs.Maps.{TxMap}
 use Rattle.mdcc_messages.specs.Spelling.{fact_bytes}
 use Rattle.mdcc_messages.specs.declared.facts.Fact.{Fact}
-use Rattle.mdcc_protocol.specs.Facts.{amounts_added, live_from}
+use Rattle.mdcc_protocol.specs.Facts.{amounts_added}
+use Rattle.mdcc_protocol.specs.Plain.{plain_live_from}
 use Rattle.mdcc_protocol.specs.declared.fit.Load.{Load}
 use Rattle.mdcc_escrow.specs.Weights.{with_live}
 use Rattle.mdcc_fact_cells.specs.Holding.{AreWellFormed}
@@ -107,8 +108,8 @@ steps-summed seen void key version load (fact ∷ older) fits =
     ap (λ es. load_over seen void key version (with_entries seen void key version (map fact_bytes older) load es) (map fact_bytes older)) (live-is-read key version fact fits.0)
     ∙ ap (λ l. load_over seen void key version l (map fact_bytes older))
     (folded seen (counts void key version (map fact_bytes older)) (is_counted void older key version)
-    (λ tx. ap (λ b. not (void tx) && not b) (any-live key version tx older fits.1)) load (live_from key version fact))
-    ∙ steps-summed seen void key version (fold (with_live seen) load (filter (λ e. is_counted void older key version e.0) (live_from key version fact))) older fits.1
+    (λ tx. ap (λ b. not (void tx) && not b) (any-live key version tx older fits.1)) load (plain_live_from key version fact))
+    ∙ steps-summed seen void key version (fold (with_live seen) load (filter (λ e. is_counted void older key version e.0) (plain_live_from key version fact))) older fits.1
 
 pub load-is-summed : (seen : List TxId) (void : TxId → Bool) (key : Key) (version : ℕ) (load : Load) (texts : List (List ℕ)) (facts : List Fact) → AreOf texts facts
     → load_over seen void key version load texts ≡ load_steps seen void key version load facts

@@ -32,3 +32,5 @@ fact_lines number (Fact.Voted key version ballot options offered) = flat_map (ma
 fact_lines number (Fact.Heard tx outcome) = decimal number ++ codes " heard " ++ tx_text tx ++ codes " " ++ end_text outcome ++ codes "\n"
 fact_lines number (Fact.Adopted key version item adds) =
     decimal number ++ codes " adopted " ++ key ++ codes " " ++ decimal version ++ codes " adds " ++ decimal (length adds) ++ codes "\n"
+fact_lines number (Fact.Floor centre epoch seq) =
+    decimal number ++ codes " floor " ++ decimal centre ++ codes " " ++ decimal epoch ++ codes " " ++ decimal seq ++ codes "\n"

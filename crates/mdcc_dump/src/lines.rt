@@ -108,5 +108,8 @@ pub(crate) fn write_fact(number: u64, fact: &Fact, text: &mut String) -> Result<
             let count = adds.len();
             write!(text, "{number} adopted {key} {version} adds {count}\n")
         }
+        Fact::Floor { centre, epoch, seq } => {
+            write!(text, "{number} floor {centre} {epoch} {seq}\n")
+        }
     }
 }

@@ -165,3 +165,19 @@ fn a_promise_and_what_was_adopted(rt: HostRuntime) -> Result<(), Fail> {
     );
     Ok(())
 }
+
+// The frame of a floor: centre 1, epoch 1, sequence number 1, with the closed gate behind it.
+const FLOOR: [u8; 16] = [1, 10, 0, 0, 0, 6, 1, 1, 0, 0, 0, 1, 0, 0, 0, 0];
+
+// No rule sets a floor yet, so a log that has one is of no node.
+#[test]
+fn a_floor(rt: HostRuntime) -> Result<(), Fail> {
+    let alloc = rt.alloc();
+    let mut log = Vec::new(alloc);
+    log.extend_from_slice(&BOOTED[..18])?;
+    log.extend_from_slice(&FLOOR)?;
+    let mut disks = disks_of(alloc, log.as_slice())?;
+    let ran = dumped(alloc, 1, &mut disks)?;
+    assert!(rt; is_dump(&ran, "", "mdcc: log 1: NotARun 2\n", 9));
+    Ok(())
+}

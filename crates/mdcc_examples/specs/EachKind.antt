@@ -103,6 +103,8 @@ all_messages =
     ∷ messages.SyncGive key_a 1 wide_item deltas
     ∷ messages.ClientRead 0 key_a
     ∷ messages.ClientBegin 1 parts
+    ∷ messages.Mark 9 1 (2 ^ 32 - 1)
+    ∷ messages.Finished first_tx
     ∷ map (messages.ClientAnswer (2 ^ 32 - 1)) all_answers
 
 abbrev pub enveloped : Message → Envelope
@@ -120,4 +122,5 @@ all_facts =
     ∷ facts.Heard first_tx outcomes.Abort
     ∷ facts.Heard first_tx (outcomes.Commit (writing ∷ adding ∷ []))
     ∷ facts.Adopted key_a 1 wide_item deltas
+    ∷ facts.Floor 1 1 2
     ∷ []

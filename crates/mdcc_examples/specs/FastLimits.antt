@@ -6,8 +6,8 @@ use Rattle.mdcc_base.specs.declared.key.Key.{Key}
 use Rattle.mdcc_option.specs.declared.cluster.Cluster.{Cluster}
 use Rattle.mdcc_option.specs.declared.cluster.FastLimit.{FastLimit}
 use Rattle.mdcc_struct.specs.declared.options.Options.{Options}
-use Rattle.mdcc_ledger.specs.AllowedStructures.{promisers_of, reports_at}
-use Rattle.mdcc_ledger_laws.specs.LedgerTest.{is_entry_allowed, is_ledger_allowed}
+use Rattle.mdcc_ledger.specs.AllowedStructures.{promisers_of}
+use Rattle.mdcc_ledger_laws.specs.LedgerTest.{is_entry_allowed, is_ledger_allowed, reports_now}
 use Rattle.mdcc_language.specs.Errors.{ReplayFault}
 use Rattle.mdcc_protocol.specs.Facts.{promise_of}
 use Rattle.mdcc_ledger.specs.Ledger.{Entry, Valued, facts_of, outcome_of}
@@ -114,7 +114,7 @@ abbrev pub structure_in : World → Options
 structure_in world =
     let leader = (ballot_in world).centre in
     let centres = promisers_of world.cluster.quorums world.ledger key 1 (ballot_in world) in
-    first_structure world.cluster (facts_of world.ledger leader) key 1 [] (reports_at world.ledger key 1 (ballot_in world) centres)
+    first_structure world.cluster (facts_of world.ledger leader) key 1 [] (reports_now world.ledger key 1 (ballot_in world) centres)
 
 abbrev pub entry_in : World → Entry
 entry_in world = Valued (ballot_in world).centre key 1 (ballot_in world) (structure_in world)

@@ -100,6 +100,7 @@ stored-at held (ticket ∷ tickets) (suc number) bytes below is = stored-at held
 
 some-length : (fact : Fact) → 1 ≤ fact_length fact
 some-length (facts.Booted epoch) = omega arith
+some-length (facts.Floor origin era upto) = omega arith
 some-length (facts.Promised key low high ballot) = omega arith
 some-length (facts.Voted key version ballot options offered) = omega arith
 some-length (facts.Heard tx outcome) = omega arith

@@ -7,6 +7,7 @@ use Rattle.mdcc_fact_folds.specs.Chains.{InstanceCoversDeltas, InstanceCoversVot
 
 is_vote : (key : Key) (version : ℕ) (fact : Fact) → is_vote_in key version fact ≡ true → is_of_instance key version fact ≡ true
 is_vote key version (Fact.Booted epoch) h = absurd (cc)
+is_vote key version (Fact.Floor origin era upto) h = absurd (cc)
 is_vote key version (Fact.Promised k low high b) h = absurd (cc)
 is_vote key version (Fact.Voted k v b options offered) h = h
 is_vote key version (Fact.Heard t outcome) h = absurd (cc)
@@ -14,6 +15,7 @@ is_vote key version (Fact.Adopted k v item adds) h = absurd (cc)
 
 is_delta : (key : Key) (version : ℕ) (fact : Fact) → is_delta_in key version fact ≡ true → is_of_instance key version fact ≡ true
 is_delta key version (Fact.Booted epoch) h = absurd (cc)
+is_delta key version (Fact.Floor origin era upto) h = absurd (cc)
 is_delta key version (Fact.Promised k low high b) h = absurd (cc)
 is_delta key version (Fact.Voted k v b options offered) h = absurd (cc)
 is_delta key version (Fact.Heard t Outcome.Abort) h = absurd (cc)

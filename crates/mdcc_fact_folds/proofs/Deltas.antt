@@ -35,6 +35,7 @@ no_given key version (c ∷ cs) h =
 
 pub no_deltas : (key : Key) (version : ℕ) (fact : Fact) → is_delta_in key version fact ≡ false → deltas_from key version fact ≡ []
 no_deltas key version (Fact.Booted epoch) h = refl
+no_deltas key version (Fact.Floor origin era upto) h = refl
 no_deltas key version (Fact.Promised k low high b) h = refl
 no_deltas key version (Fact.Voted k u b options offered) h = refl
 no_deltas key version (Fact.Heard t Outcome.Abort) h = refl

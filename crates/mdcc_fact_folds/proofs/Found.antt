@@ -82,6 +82,7 @@ commit_found key version index (c ∷ cs) up =
 instance_found : (key : Key) (version : ℕ) (fact : Fact) (index : ℕ) → is_ordered fact ≡ true
     → found_by (is_instance key version) (at_index index (instances_in fact)) ≡ only_if (is_of_instance key version fact) index
 instance_found key version (Fact.Booted epoch) index h = refl
+instance_found key version (Fact.Floor origin era upto) index h = refl
 instance_found key version (Fact.Promised k low high b) index h = refl
 instance_found key version (Fact.Voted k v b options offered) index h = one_entry (is_instance key version) (k, v) index
 instance_found key version (Fact.Heard t Outcome.Abort) index h = refl
@@ -94,6 +95,7 @@ instance-found fact_at indices key version all =
 
 pub eight-instances : AtMostEightInstances
 eight-instances (Fact.Booted epoch) h = omega arith
+eight-instances (Fact.Floor origin era upto) h = omega arith
 eight-instances (Fact.Promised k low high b) h = omega arith
 eight-instances (Fact.Voted k v b options offered) h = omega arith
 eight-instances (Fact.Heard t Outcome.Abort) h = omega arith
@@ -112,6 +114,7 @@ all_usual (index ∷ indices) = all_usual indices
 
 promise_found : (key : Key) (fact : Fact) (index : ℕ) → true ≡ true → found_by (λ k. key_eq k key) (at_index index (promised_in fact)) ≡ only_if (is_promise_of key fact) index
 promise_found key (Fact.Booted epoch) index h = refl
+promise_found key (Fact.Floor origin era upto) index h = refl
 promise_found key (Fact.Promised k low high b) index h = one_entry (λ k. key_eq k key) k index
 promise_found key (Fact.Voted k v b options offered) index h = refl
 promise_found key (Fact.Heard t outcome) index h = refl
@@ -123,6 +126,7 @@ promises-found fact_at indices key =
 
 outcome_found : (tx : TxId) (fact : Fact) (index : ℕ) → true ≡ true → found_by (λ t. tx_eq t tx) (at_index index (heard_in fact)) ≡ only_if (is_heard_of tx fact) index
 outcome_found tx (Fact.Booted epoch) index h = refl
+outcome_found tx (Fact.Floor origin era upto) index h = refl
 outcome_found tx (Fact.Promised k low high b) index h = refl
 outcome_found tx (Fact.Voted k v b options offered) index h = refl
 outcome_found tx (Fact.Heard t outcome) index h = one_entry (λ s. tx_eq s tx) t index

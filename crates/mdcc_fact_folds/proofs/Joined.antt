@@ -15,7 +15,8 @@ use Rattle.mdcc_struct.proofs.Values.{value_of-union}
 use Rattle.mdcc_struct.proofs.Walks.{ascending-union}
 use Rattle.mdcc_base.specs.Ballot.{is_fast}
 use Rattle.mdcc_struct.specs.declared.report.Report.{Report}
-use Rattle.mdcc_protocol.specs.Facts.{last_ballot, marks_voted, report_of, votes_of}
+use Rattle.mdcc_protocol.specs.Facts.{last_ballot, marks_voted, votes_of}
+use Rattle.mdcc_protocol.specs.Plain.{plain_report_of}
 use Rattle.mdcc_protocol.specs.Stores.{is_above}
 use Rattle.mdcc_messages.specs.declared.facts.Fact.{Fact}
 use Rattle.mdcc_fact_folds.specs.Chains.{is_vote_in, Covers}
@@ -136,7 +137,7 @@ voted-walk keep key version ballot tx covers facts =
 -- ---- the marks of a report
 
 report-chain : (keep : Fact → Bool) (key : Key) (version : ℕ) (below : Ballot) → Covers keep (is_vote_in key version)
-    → (facts : List Fact) → report_of 0 facts key version below ≡ report_of 0 (filter keep facts) key version below
+    → (facts : List Fact) → plain_report_of 0 facts key version below ≡ plain_report_of 0 (filter keep facts) key version below
 report-chain keep key version below covers facts =
     ap (λ ballot. report_at ballot (votes_of facts key version ballot)) (below-chain keep key version below covers facts)
     ∙ ap (report_at (last_ballot (filter keep facts) key version below)) (votes-chain keep key version (last_ballot (filter keep facts) key version below) covers facts)

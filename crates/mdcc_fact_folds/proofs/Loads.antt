@@ -14,10 +14,10 @@ use Rattle.mdcc_option.specs.declared.items.Update.{Update}
 use Rattle.mdcc_struct.specs.Maps.{TxMap, union, value_of}
 use Rattle.mdcc_struct.specs.declared.options.Options.{Options}
 use Rattle.mdcc_messages.specs.declared.facts.Fact.{Fact}
-use Rattle.mdcc_protocol.specs.Facts.{is_void, live_and_void, live_from, marks_voted, votes_of}
+use Rattle.mdcc_protocol.specs.Facts.{marks_voted, votes_of}
+use Rattle.mdcc_protocol.specs.Plain.{plain_entries_at, plain_is_void, plain_live_and_void, plain_live_from}
 use Rattle.mdcc_protocol.specs.Fit.{amounts_in, capped, decrease, has_tx, increase, load_of}
 use Rattle.mdcc_protocol.specs.Marks.{accepts_in, is_accept, is_write, rejects_in}
-use Rattle.mdcc_protocol.specs.Stores.{entries_at}
 use Rattle.mdcc_protocol.specs.declared.fit.Load.{Load}
 use Rattle.mdcc_escrow.proofs.Weighing.{load_summed}
 use Rattle.mdcc_escrow.specs.Weights.{no_load, with_live}
@@ -32,37 +32,38 @@ use Rattle.mdcc_fact_folds.proofs.New.{firsts, length-number, number-sum, one_if
 
 -- ---- what is live comes from the chain
 
-no_live : (key : Key) (version : ℕ) (fact : Fact) → is_of_instance key version fact ≡ false → live_from key version fact ≡ []
+no_live : (key : Key) (version : ℕ) (fact : Fact) → is_of_instance key version fact ≡ false → plain_live_from key version fact ≡ []
 no_live key version (Fact.Booted epoch) h = refl
+no_live key version (Fact.Floor origin era upto) h = refl
 no_live key version (Fact.Promised k low high b) h = refl
 no_live key version (Fact.Voted k v b options offered) h = rw h refl
 no_live key version (Fact.Heard t Outcome.Abort) h = refl
 no_live key version (Fact.Heard t (Outcome.Commit choices)) h = rw (no_deltas key version (Fact.Heard t (Outcome.Commit choices)) h) refl
 no_live key version (Fact.Adopted k v item adds) h = rw h refl
 
-pub live-joined : (key : Key) (version : ℕ) (facts : List Fact) → live_and_void facts key version ≡ joined (live_from key version) facts
+pub live-joined : (key : Key) (version : ℕ) (facts : List Fact) → plain_live_and_void facts key version ≡ joined (plain_live_from key version) facts
 live-joined key version [] = refl
-live-joined key version (fact ∷ facts) = ap (λ m. union m (live_from key version fact)) (live-joined key version facts)
+live-joined key version (fact ∷ facts) = ap (λ m. union m (plain_live_from key version fact)) (live-joined key version facts)
 
 all-chain : (keep : Fact → Bool) (key : Key) (version : ℕ) → Covers keep (is_of_instance key version) → (facts : List Fact)
-    → live_and_void facts key version ≡ live_and_void (filter keep facts) key version
+    → plain_live_and_void facts key version ≡ plain_live_and_void (filter keep facts) key version
 all-chain keep key version covers facts =
     live-joined key version facts
-    ∙ joined-chain (live_from key version) keep (λ fact left. no_live key version fact (left_out keep (is_of_instance key version) covers fact left)) facts
+    ∙ joined-chain (plain_live_from key version) keep (λ fact left. no_live key version fact (left_out keep (is_of_instance key version) covers fact left)) facts
     ∙ sym (live-joined key version (filter keep facts))
 
 pub live-chain : LiveInChain
-live-chain keep key version covers facts = ap (filter (λ e. not (is_void facts e.0))) (all-chain keep key version covers facts)
+live-chain keep key version covers facts = ap (filter (λ e. not (plain_is_void facts e.0))) (all-chain keep key version covers facts)
 
 pub update-walk : UpdateByWalk
 update-walk keep key version tx covers facts =
     ap (λ m. value_of m tx) (live-joined key version facts)
-    ∙ value-walk (live_from key version) keep (λ fact left. no_live key version fact (left_out keep (is_of_instance key version) covers fact left)) tx facts
+    ∙ value-walk (plain_live_from key version) keep (λ fact left. no_live key version fact (left_out keep (is_of_instance key version) covers fact left)) tx facts
 
 pub is_live-walk : IsLiveByWalk
 is_live-walk keep key version tx covers facts =
     ap (λ m. is_some (value_of m tx)) (live-joined key version facts)
-    ∙ found-walk (live_from key version) keep (λ fact left. no_live key version fact (left_out keep (is_of_instance key version) covers fact left)) tx facts
+    ∙ found-walk (plain_live_from key version) keep (λ fact left. no_live key version fact (left_out keep (is_of_instance key version) covers fact left)) tx facts
 
 -- ---- loads by sums
 
@@ -101,31 +102,31 @@ load-alike seen a b h =
 
 module _ (seen : List TxId) (void : TxId → Bool) (key : Key) (version : ℕ) where
   abbrev all_of : List Fact → TxMap Update
-  all_of facts = live_and_void facts key version
+  all_of facts = plain_live_and_void facts key version
 
   abbrev counts : TxId × Update → Bool
   counts e = not (void e.0)
 
   walk-folded : (load : Load) (facts : List Fact)
-      → load_walk seen void key version load facts ≡ fold (with_live seen) load (filter counts (firsts all_of (live_from key version) facts))
+      → load_walk seen void key version load facts ≡ fold (with_live seen) load (filter counts (firsts all_of (plain_live_from key version) facts))
   walk-folded load [] = refl
   walk-folded load (fact ∷ older) =
       walk-folded (fold (with_live seen) load (counted_live void older key version fact)) older
-      ∙ sym (fold-append (with_live seen) load (counted_live void older key version fact) (filter counts (firsts all_of (live_from key version) older)))
-      ∙ ap (fold (with_live seen) load) (sym (filter-append counts (first_live older key version fact) (firsts all_of (live_from key version) older)))
+      ∙ sym (fold-append (with_live seen) load (counted_live void older key version fact) (filter counts (firsts all_of (plain_live_from key version) older)))
+      ∙ ap (fold (with_live seen) load) (sym (filter-append counts (first_live older key version fact) (firsts all_of (plain_live_from key version) older)))
 
-  walk-load : (facts : List Fact) → capped (load_of (filter counts (live_and_void facts key version)) seen) ≡ load_walk seen void key version no_load facts
+  walk-load : (facts : List Fact) → capped (load_of (filter counts (plain_live_and_void facts key version)) seen) ≡ load_walk seen void key version no_load facts
   walk-load facts =
-      ap capped (load-alike seen (filter counts (all_of facts)) (filter counts (firsts all_of (live_from key version) facts))
-      (alike-kept counts (all_of facts) (firsts all_of (live_from key version) facts)
-      (λ w. sum-firsts all_of (live_from key version) refl (λ fact older. refl) w facts)))
-      ∙ sym (load_summed seen (filter counts (firsts all_of (live_from key version) facts)))
+      ap capped (load-alike seen (filter counts (all_of facts)) (filter counts (firsts all_of (plain_live_from key version) facts))
+      (alike-kept counts (all_of facts) (firsts all_of (plain_live_from key version) facts)
+      (λ w. sum-firsts all_of (plain_live_from key version) refl (λ fact older. refl) w facts)))
+      ∙ sym (load_summed seen (filter counts (firsts all_of (plain_live_from key version) facts)))
       ∙ sym (walk-folded no_load facts)
 
 pub load-walk : LoadByWalk
 load-walk keep key version seen covers facts =
     ap (λ live. capped (load_of live seen)) (live-chain keep key version covers facts)
-    ∙ walk-load seen (is_void facts) key version (filter keep facts)
+    ∙ walk-load seen (plain_is_void facts) key version (filter keep facts)
 
 -- ---- the walk of the entries
 
@@ -156,7 +157,7 @@ module _ (key : Key) (version : ℕ) where
   pub votes-alike : (facts : List Fact) → AreAlike (fast_votes facts) (firsts fast_votes fast_marks facts)
   votes-alike facts w = sum-firsts fast_votes fast_marks refl (λ fact older. refl) w facts
 
-  pub walk-entries : (facts : List Fact) → entries_at facts key version ≡ entries_walk key version (0, 0) facts
+  pub walk-entries : (facts : List Fact) → plain_entries_at facts key version ≡ entries_walk key version (0, 0) facts
   walk-entries facts =
       entries-alike (fast_votes facts) (firsts fast_votes fast_marks facts) (votes-alike facts)
       ∙ sym (marks_counted (firsts fast_votes fast_marks facts))

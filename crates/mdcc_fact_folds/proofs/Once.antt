@@ -21,7 +21,8 @@ use Rattle.mdcc_struct.specs.Maps.{TxMap, union, value_of, are_ascending}
 use Rattle.mdcc_struct.specs.declared.options.Options.{Options}
 use Rattle.mdcc_messages.specs.declared.facts.Fact.{Fact}
 use Rattle.mdcc_protocol.specs.Facts.{marks_voted, votes_of}
-use Rattle.mdcc_protocol.specs.Stores.{count_voted, entries_at}
+use Rattle.mdcc_protocol.specs.Stores.{count_voted}
+use Rattle.mdcc_protocol.specs.Plain.{plain_entries_at}
 use Rattle.mdcc_facts.specs.Adding.{is_voted_before}
 use Rattle.mdcc_facts.specs.Listed.{are_voted_once}
 use Rattle.mdcc_facts.specs.Weights.{with_mark}
@@ -64,6 +65,7 @@ module _ (facts : List Fact) (fact : Fact) (once : are_voted_once (fact ∷ fact
 voted-apart : (facts : List Fact) (fact : Fact) (key : Key) (version : ℕ) (ballot : Ballot) → is_voted_before facts fact ≡ false
     → list_any (has (votes_of facts key version ballot)) (marks_voted key version ballot fact) ≡ false
 voted-apart facts (Fact.Booted epoch) key version ballot h = refl
+voted-apart facts (Fact.Floor origin era upto) key version ballot h = refl
 voted-apart facts (Fact.Promised k low high b) key version ballot h = refl
 voted-apart facts (Fact.Voted k v b options offered) key version ballot h = by (v == version && ballot_eq b ballot && key_eq k key) refl
   where
@@ -133,7 +135,7 @@ module _ (key : Key) (version : ℕ) where
   swapped a b w = let left = sum-append w a b in let right = sum-append w b a in omega (arith, left, right)
 
   entries-more : (facts : List Fact) (fact : Fact)
-      → entries_at (fact ∷ facts) key version ≡ fold with_mark (entries_at facts key version) (first_marks facts key version fast_ballot fact)
+      → plain_entries_at (fact ∷ facts) key version ≡ fold with_mark (plain_entries_at facts key version) (first_marks facts key version fast_ballot fact)
   entries-more facts fact =
       let first = first_marks facts key version fast_ballot fact in
       let rest = firsts votes_in marks_in facts in
@@ -149,7 +151,7 @@ entries-update facts fact key version new =
     let votes = votes_of facts key version fast_ballot in
     let marks = marks_voted key version fast_ballot fact in
     entries-more key version facts fact
-    ∙ ap (fold with_mark (entries_at facts key version))
+    ∙ ap (fold with_mark (plain_entries_at facts key version))
     (new-beside votes marks (marks-ascend key version fast_ballot fact (well_formed-ordered fact new.well_formed))
     ∙ beside-all votes marks (voted-apart facts fact key version fast_ballot new.voted))
 

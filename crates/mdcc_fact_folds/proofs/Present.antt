@@ -17,8 +17,9 @@ use Rattle.mdcc_struct.proofs.Values.{value_of-union}
 use Rattle.mdcc_struct.proofs.Walks.{ascending-union}
 use Rattle.mdcc_struct.specs.Maps.{TxMap, are_ascending, txs_of, union, value_of}
 use Rattle.mdcc_messages.specs.declared.facts.Fact.{Fact}
-use Rattle.mdcc_protocol.specs.Facts.{deltas_from, last_ballot, marks_voted, votes_of, report_of}
-use Rattle.mdcc_protocol.specs.Stores.{is_above, mark_after}
+use Rattle.mdcc_protocol.specs.Facts.{deltas_from, last_ballot, marks_voted, votes_of}
+use Rattle.mdcc_protocol.specs.Plain.{plain_mark_after, plain_report_of}
+use Rattle.mdcc_protocol.specs.Stores.{is_above}
 use Rattle.mdcc_facts.proofs.Walking.{beside, found-end, found-none, found-some, least_union, rest-next}
 use Rattle.mdcc_facts.specs.Walks.{each_kept, is_next_tx, least_from, lower_passing, next_tx, rest_of}
 use Rattle.mdcc_fact_folds.specs.Chains.{Covers, is_delta_in, is_vote_in}
@@ -213,7 +214,7 @@ module _ (keep : Fact → Bool) (key : Key) (version : ℕ) (covers : Covers kee
 pub after-walks : MarkAfterByWalks
 after-walks keep key version below last covers facts = by (is_fast below) refl
   where
-    by : (fast : Bool) → is_fast below ≡ fast → mark_after facts key version below last ≡ (if fast then None else mark_walks key version below last (filter keep facts))
+    by : (fast : Bool) → is_fast below ≡ fast → plain_mark_after facts key version below last ≡ (if fast then None else mark_walks key version below last (filter keep facts))
     by true is = rw is refl
     by false is =
         rw is
@@ -264,6 +265,6 @@ module _ (ballot : Ballot) (m : Options) where
 
 pub place-steps : MarkBelowBySteps
 place-steps facts key version below place =
-    let report = report_of 0 facts key version below in
+    let report = plain_report_of 0 facts key version below in
     ap (beside report.ballot) (sym (further-at report.votes (ascending-report facts key version below) None place ∙ ap (λ rest. slice_get rest place) (all-above report.votes)))
     ∙ sym (further-beside report.ballot report.votes None place)

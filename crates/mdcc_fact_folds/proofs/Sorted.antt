@@ -20,15 +20,16 @@ use Rattle.mdcc_struct.specs.Maps.{TxMap, are_ascending}
 use Rattle.mdcc_struct.specs.declared.options.Options.{Options}
 use Rattle.mdcc_messages.specs.WellFormedParts.{choice_lt, delta_lt, is_ascending_by}
 use Rattle.mdcc_messages.specs.declared.facts.Fact.{Fact}
-use Rattle.mdcc_protocol.specs.Facts.{amounts_added, delta_given, deltas_from, live_from, live_mark, marks_voted}
+use Rattle.mdcc_protocol.specs.Facts.{amounts_added, delta_given, deltas_from, live_mark, marks_voted}
+use Rattle.mdcc_protocol.specs.Plain.{plain_live_and_void, plain_live_from}
 use Rattle.mdcc_protocol.specs.Marks.{Amounts}
 use Rattle.mdcc_fact_folds.specs.Chains.{is_choice_at}
 use Rattle.mdcc_fact_folds.specs.Live.{FirstLiveOfOrdered, WellFormedAreOrdered, is_ordered}
 use Rattle.mdcc_fact_folds.proofs.New.{new-beside}
-use Rattle.mdcc_protocol.specs.Facts.{live_and_void}
 
 pub well_formed-ordered : WellFormedAreOrdered
 well_formed-ordered (Fact.Booted epoch) h = refl
+well_formed-ordered (Fact.Floor origin era upto) h = refl
 well_formed-ordered (Fact.Promised k low high b) h = refl
 well_formed-ordered (Fact.Voted k v b options offered) h = h.options_itself.ascending
 well_formed-ordered (Fact.Heard t Outcome.Abort) h = refl
@@ -41,6 +42,7 @@ if-ascends false m up = refl
 
 pub marks-ascend : (key : Key) (version : ℕ) (ballot : Ballot) (fact : Fact) → is_ordered fact ≡ true → are_ascending (marks_voted key version ballot fact) ≡ true
 marks-ascend key version ballot (Fact.Booted epoch) h = refl
+marks-ascend key version ballot (Fact.Floor origin era upto) h = refl
 marks-ascend key version ballot (Fact.Promised k low high b) h = refl
 marks-ascend key version ballot (Fact.Voted k v b options offered) h = if-ascends (v == version && ballot_eq b ballot && key_eq k key) options h
 marks-ascend key version ballot (Fact.Heard t outcome) h = refl
@@ -159,14 +161,16 @@ given-ascend key version (c ∷ cs) up =
 
 pub deltas-ascend : (key : Key) (version : ℕ) (fact : Fact) → is_ordered fact ≡ true → are_ascending (deltas_from key version fact) ≡ true
 deltas-ascend key version (Fact.Booted epoch) h = refl
+deltas-ascend key version (Fact.Floor origin era upto) h = refl
 deltas-ascend key version (Fact.Promised k low high b) h = refl
 deltas-ascend key version (Fact.Voted k v b options offered) h = refl
 deltas-ascend key version (Fact.Heard t Outcome.Abort) h = refl
 deltas-ascend key version (Fact.Heard t (Outcome.Commit choices)) h = given-ascend key version choices h
 deltas-ascend key version (Fact.Adopted k v item adds) h = if-ascends (v == version && key_eq k key) (map pair_of adds) (adopted-ascend adds ∙ h)
 
-pub live_from-ascend : (key : Key) (version : ℕ) (fact : Fact) → is_ordered fact ≡ true → are_ascending (live_from key version fact) ≡ true
+pub live_from-ascend : (key : Key) (version : ℕ) (fact : Fact) → is_ordered fact ≡ true → are_ascending (plain_live_from key version fact) ≡ true
 live_from-ascend key version (Fact.Booted epoch) h = refl
+live_from-ascend key version (Fact.Floor origin era upto) h = refl
 live_from-ascend key version (Fact.Promised k low high b) h = refl
 live_from-ascend key version (Fact.Voted k v b options offered) h = if-ascends (v == version && key_eq k key) (filter_map live_mark options) (live-ascend options h)
 live_from-ascend key version (Fact.Heard t Outcome.Abort) h = refl
@@ -176,4 +180,4 @@ live_from-ascend key version (Fact.Adopted k v item adds) h =
     adds-ascend (deltas_from key version (Fact.Adopted k v item adds)) ∙ deltas-ascend key version (Fact.Adopted k v item adds) h
 
 pub first-live : FirstLiveOfOrdered
-first-live older key version fact h = new-beside (live_and_void older key version) (live_from key version fact) (live_from-ascend key version fact h)
+first-live older key version fact h = new-beside (plain_live_and_void older key version) (plain_live_from key version fact) (live_from-ascend key version fact h)

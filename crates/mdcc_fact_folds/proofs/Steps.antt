@@ -10,7 +10,8 @@ use Rattle.mdcc_base.specs.declared.key.Key.{Key}
 use Rattle.mdcc_option.specs.declared.items.Update.{Update}
 use Rattle.mdcc_struct.specs.Maps.{value_of}
 use Rattle.mdcc_messages.specs.declared.facts.Fact.{Fact}
-use Rattle.mdcc_protocol.specs.Facts.{deltas_at, deltas_from, is_void, live_and_void, live_from}
+use Rattle.mdcc_protocol.specs.Facts.{deltas_at, deltas_from}
+use Rattle.mdcc_protocol.specs.Plain.{plain_is_void, plain_live_and_void, plain_live_from}
 use Rattle.mdcc_protocol.specs.Marks.{Amounts}
 use Rattle.mdcc_fact_folds.specs.Held.{FirstDeltasOfOrdered, is_delta_by, CrowdingBySteps, deltas_steps, deltas_walk, next_version_of}
 use Rattle.mdcc_fact_folds.proofs.Deltas.{deltas-joined, counted-from, crowding-chains}
@@ -45,16 +46,16 @@ kept-twice p q both (x ∷ xs) h =
       ]
     ]
 
-live-before : (older : List Fact) (key : Key) (version : ℕ) (tx : TxId) → is_some (value_of (live_and_void older key version) tx) ≡ list_any (is_live_by key version tx) older
-live-before older key version tx = ap (λ m. is_some (value_of m tx)) (live-joined key version older) ∙ found-any (live_from key version) tx older
+live-before : (older : List Fact) (key : Key) (version : ℕ) (tx : TxId) → is_some (value_of (plain_live_and_void older key version) tx) ≡ list_any (is_live_by key version tx) older
+live-before older key version tx = ap (λ m. is_some (value_of m tx)) (live-joined key version older) ∙ found-any (plain_live_from key version) tx older
 
 module _ (seen : List TxId) (void : TxId → Bool) (key : Key) (version : ℕ) where
   counted-step : (older : List Fact) (fact : Fact) → is_ordered fact ≡ true
-      → counted_live void older key version fact ≡ filter (λ e. is_counted void older key version e.0) (live_from key version fact)
+      → counted_live void older key version fact ≡ filter (λ e. is_counted void older key version e.0) (plain_live_from key version fact)
   counted-step older fact ordered =
       ap (filter (λ (e : TxId × Update). not (void e.0))) (first-live older key version fact ordered)
-      ∙ kept-twice (λ (e : TxId × Update). not (is_some (value_of (live_and_void older key version) e.0))) (λ e. not (void e.0))
-      (λ e. is_counted void older key version e.0) (live_from key version fact)
+      ∙ kept-twice (λ (e : TxId × Update). not (is_some (value_of (plain_live_and_void older key version) e.0))) (λ e. not (void e.0))
+      (λ e. is_counted void older key version e.0) (plain_live_from key version fact)
       (λ e. ap (λ b. not (void e.0) && not b) (sym (live-before older key version e.0)))
 
   steps-walk : (load : Load) (facts : List Fact) → list_all is_ordered facts ≡ true → load_walk seen void key version load facts ≡ load_steps seen void key version load facts
@@ -62,12 +63,12 @@ module _ (seen : List TxId) (void : TxId → Bool) (key : Key) (version : ℕ) w
   steps-walk load (fact ∷ older) ordered =
       let parts = and_parts (is_ordered fact) (list_all is_ordered older) ordered in
       ap (λ live. load_walk seen void key version (fold (with_live seen) load live) older) (counted-step older fact parts.0)
-      ∙ steps-walk (fold (with_live seen) load (filter (λ e. is_counted void older key version e.0) (live_from key version fact))) older parts.1
+      ∙ steps-walk (fold (with_live seen) load (filter (λ e. is_counted void older key version e.0) (plain_live_from key version fact))) older parts.1
 
 pub load-steps : LoadBySteps
 load-steps keep key version seen covers facts ordered =
     load-walk keep key version seen covers facts
-    ∙ steps-walk seen (is_void facts) key version no_load (filter keep facts) (all-kept is_ordered keep facts ordered)
+    ∙ steps-walk seen (plain_is_void facts) key version no_load (filter keep facts) (all-kept is_ordered keep facts ordered)
 
 -- ---- deltas
 

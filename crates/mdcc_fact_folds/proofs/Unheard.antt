@@ -13,7 +13,8 @@ use Rattle.mdcc_struct.proofs.Inclusion.{same_found}
 use Rattle.mdcc_struct.proofs.Order.{tx_eq-same, tx_eq-sym}
 use Rattle.mdcc_struct.proofs.Values.{entry_value, value_of-union, value_of-with_entry}
 use Rattle.mdcc_struct.proofs.Walks.{ascending-filter, ascending-union, ascending-with_entry}
-use Rattle.mdcc_protocol.specs.Facts.{heard_of, is_heard, outcome_in, unresolved_of, write_sets_from, write_sets_of}
+use Rattle.mdcc_protocol.specs.Facts.{heard_of, is_heard, outcome_in, write_sets_from, write_sets_of}
+use Rattle.mdcc_protocol.specs.Plain.{plain_unresolved_of}
 use Rattle.mdcc_messages.specs.declared.facts.Fact.{Fact}
 use Rattle.mdcc_fact_folds.specs.Unresolved.{OutcomeOfUnknown, UnresolvedAscends, UnresolvedUpdates, VoteOfKnown, WriteSetByWalk, WriteSetUpdates, WriteSetUnheard, is_choice_of, with_unheard, without}
 use Rattle.mdcc_fact_folds.proofs.Chosen.{or_assoc, or_left, or_right}
@@ -53,7 +54,7 @@ write_sets-ascend (fact ∷ facts) = ascending-union (write_sets_of facts) (writ
 pub unresolved-ascends : UnresolvedAscends
 unresolved-ascends facts = ascending-filter (λ e. not (is_heard facts e.0)) (write_sets_of facts) (write_sets-ascend facts)
 
-unresolved-value : (facts : List Fact) (tx : TxId) → value_of (unresolved_of facts) tx ≡ kept_value (not (is_heard facts tx)) (value_of (write_sets_of facts) tx)
+unresolved-value : (facts : List Fact) (tx : TxId) → value_of (plain_unresolved_of facts) tx ≡ kept_value (not (is_heard facts tx)) (value_of (write_sets_of facts) tx)
 unresolved-value facts tx = value-kept (λ t. not (is_heard facts t)) (write_sets_of facts) tx
 
 pub write_set-unheard : WriteSetUnheard
@@ -129,17 +130,17 @@ vote-values None a b = refl
 vote-values (Some outcome) a b = refl
 
 module _ (facts : List Fact) (fact : Fact) (silent : (tx : TxId) → outcome_in tx fact ≡ None) where
-  vote-more : unresolved_of (fact ∷ facts) ≡ fold (with_unheard facts) (unresolved_of facts) (write_sets_from fact)
+  vote-more : plain_unresolved_of (fact ∷ facts) ≡ fold (with_unheard facts) (plain_unresolved_of facts) (write_sets_from fact)
   vote-more =
-      same_found (unresolved_of (fact ∷ facts)) (fold (with_unheard facts) (unresolved_of facts) (write_sets_from fact))
-      (unresolved-ascends (fact ∷ facts)) (folded-ascends facts (unresolved_of facts) (write_sets_from fact) (unresolved-ascends facts))
+      same_found (plain_unresolved_of (fact ∷ facts)) (fold (with_unheard facts) (plain_unresolved_of facts) (write_sets_from fact))
+      (unresolved-ascends (fact ∷ facts)) (folded-ascends facts (plain_unresolved_of facts) (write_sets_from fact) (unresolved-ascends facts))
       (λ tx.
       unresolved-value (fact ∷ facts) tx
       ∙ ap (λ o. kept_value (not (is_some (option_or (heard_of facts tx) o))) (value_of (write_sets_of (fact ∷ facts)) tx)) (silent tx)
       ∙ ap (λ o. kept_value (not (is_some (option_or (heard_of facts tx) None))) o) (value_of-union (write_sets_of facts) (write_sets_from fact) tx)
       ∙ vote-values (heard_of facts tx) (value_of (write_sets_of facts) tx) (value_of (write_sets_from fact) tx)
       ∙ ap (λ o. option_or o (if is_heard facts tx then None else value_of (write_sets_from fact) tx)) (sym (unresolved-value facts tx))
-      ∙ sym (folded-value facts (unresolved_of facts) (write_sets_from fact) tx))
+      ∙ sym (folded-value facts (plain_unresolved_of facts) (write_sets_from fact) tx))
 
 -- ---- an outcome
 
@@ -150,19 +151,20 @@ heard-values None outcome false a = refl
 heard-values (Some before) outcome true a = refl
 heard-values (Some before) outcome false a = refl
 
-heard-more : (facts : List Fact) (t : TxId) (outcome : Outcome) → unresolved_of (Fact.Heard t outcome ∷ facts) ≡ without t (unresolved_of facts)
+heard-more : (facts : List Fact) (t : TxId) (outcome : Outcome) → plain_unresolved_of (Fact.Heard t outcome ∷ facts) ≡ without t (plain_unresolved_of facts)
 heard-more facts t outcome =
-    same_found (unresolved_of (Fact.Heard t outcome ∷ facts)) (without t (unresolved_of facts))
-    (unresolved-ascends (Fact.Heard t outcome ∷ facts)) (ascending-filter (λ e. not (tx_eq e.0 t)) (unresolved_of facts) (unresolved-ascends facts))
+    same_found (plain_unresolved_of (Fact.Heard t outcome ∷ facts)) (without t (plain_unresolved_of facts))
+    (unresolved-ascends (Fact.Heard t outcome ∷ facts)) (ascending-filter (λ e. not (tx_eq e.0 t)) (plain_unresolved_of facts) (unresolved-ascends facts))
     (λ tx.
     unresolved-value (Fact.Heard t outcome ∷ facts) tx
     ∙ heard-values (heard_of facts tx) outcome (tx_eq t tx) (value_of (write_sets_of facts) tx)
     ∙ ap (λ b. kept_value (not b) (kept_value (not (is_heard facts tx)) (value_of (write_sets_of facts) tx))) (tx_eq-sym t tx)
     ∙ ap (λ o. kept_value (not (tx_eq tx t)) o) (sym (unresolved-value facts tx))
-    ∙ sym (value-kept (λ s. not (tx_eq s t)) (unresolved_of facts) tx))
+    ∙ sym (value-kept (λ s. not (tx_eq s t)) (plain_unresolved_of facts) tx))
 
 pub unresolved-updates : UnresolvedUpdates
 unresolved-updates facts (Fact.Booted epoch) = vote-more facts (Fact.Booted epoch) (λ tx. refl)
+unresolved-updates facts (Fact.Floor origin era upto) = vote-more facts (Fact.Floor origin era upto) (λ tx. refl)
 unresolved-updates facts (Fact.Promised k low high b) = vote-more facts (Fact.Promised k low high b) (λ tx. refl)
 unresolved-updates facts (Fact.Voted k v b options offered) = vote-more facts (Fact.Voted k v b options offered) (λ tx. refl)
 unresolved-updates facts (Fact.Heard t outcome) = heard-more facts t outcome
@@ -191,18 +193,18 @@ write_set-walk keep tx covers facts =
 -- ---- facts that change nothing
 
 known-entry : (facts : List Fact) (e : TxId × List (Key × ℕ)) → is_some (value_of (write_sets_of facts) e.0) ≡ true
-    → with_unheard facts (unresolved_of facts) e ≡ unresolved_of facts
+    → with_unheard facts (plain_unresolved_of facts) e ≡ plain_unresolved_of facts
 known-entry facts e known =
     elim (cases_Bool (is_heard facts e.0)) [
       | inl heard ↦ rw heard refl
       | inr unheard ↦
-          let there : is_some (value_of (unresolved_of facts) e.0) ≡ true =
+          let there : is_some (value_of (plain_unresolved_of facts) e.0) ≡ true =
           ap (λ o. is_some o) (unresolved-value facts e.0) ∙ rw unheard known in
           rw (unheard, there) refl
     ]
 
 known-entries : (facts : List Fact) (es : TxMap (List (Key × ℕ))) → list_all (λ e. is_some (value_of (write_sets_of facts) e.0)) es ≡ true
-    → fold (with_unheard facts) (unresolved_of facts) es ≡ unresolved_of facts
+    → fold (with_unheard facts) (plain_unresolved_of facts) es ≡ plain_unresolved_of facts
 known-entries facts [] known = refl
 known-entries facts (e ∷ es) known =
     let parts = and_parts (is_some (value_of (write_sets_of facts) e.0)) (list_all (λ e. is_some (value_of (write_sets_of facts) e.0)) es) known in
@@ -226,5 +228,5 @@ kept-none false o h = refl
 
 pub outcome-unknown : OutcomeOfUnknown
 outcome-unknown facts tx none =
-    without-none (unresolved_of facts) tx
+    without-none (plain_unresolved_of facts) tx
     (ap (λ o. is_some o) (unresolved-value facts tx) ∙ kept-none (not (is_heard facts tx)) (value_of (write_sets_of facts) tx) none)

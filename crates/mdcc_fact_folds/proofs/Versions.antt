@@ -52,6 +52,7 @@ no_base_in key v a (c ∷ cs) h =
 
 no_base_from : (key : Key) (v : ℕ) (fact : Fact) → version_from key fact < v → base_from key v fact ≡ None
 no_base_from key v (Fact.Booted epoch) h = refl
+no_base_from key v (Fact.Floor origin era upto) h = refl
 no_base_from key v (Fact.Promised k low high b) h = refl
 no_base_from key v (Fact.Voted k u b options offered) h = refl
 no_base_from key v (Fact.Heard t Outcome.Abort) h = refl
@@ -106,6 +107,7 @@ base_in-there key v a base (c ∷ cs) up there h =
 
 base_from-there : (key : Key) (v : ℕ) (fact : Fact) → 0 < v → version_from key fact ≡ v → is_some (base_from key v fact) ≡ true
 base_from-there key v (Fact.Booted epoch) up h = absurd (omega (arith, h))
+base_from-there key v (Fact.Floor origin era upto) up h = absurd (omega (arith, h))
 base_from-there key v (Fact.Promised k low high b) up h = absurd (omega (arith, h))
 base_from-there key v (Fact.Voted k u b options offered) up h = absurd (omega (arith, h))
 base_from-there key v (Fact.Heard t Outcome.Abort) up h = absurd (omega (arith, h))
@@ -196,6 +198,7 @@ no_version_given key a (c ∷ cs) h =
 
 pub no_version : (key : Key) (fact : Fact) → is_version_of key fact ≡ false → version_from key fact ≡ 0
 no_version key (Fact.Booted epoch) h = refl
+no_version key (Fact.Floor origin era upto) h = refl
 no_version key (Fact.Promised k low high b) h = refl
 no_version key (Fact.Voted k u b options offered) h = refl
 no_version key (Fact.Heard t Outcome.Abort) h = refl

@@ -9,12 +9,12 @@ use Rattle.mdcc_base.specs.declared.identifiers.Ballot.{Ballot}
 use Rattle.mdcc_base.specs.declared.identifiers.TxId.{TxId}
 use Rattle.mdcc_base.specs.declared.key.Key.{Key}
 use Rattle.mdcc_option.specs.declared.choices.Outcome.{Outcome}
-use Rattle.mdcc_protocol.specs.Facts.{ballot_promised, ballot_voted, choice_known, choice_voted, heard_of, is_heard, last_ballot, later_vote, mark_voted, outcome_in, promise_of, promised_through, range_promised, vote_of}
+use Rattle.mdcc_protocol.specs.Facts.{ballot_promised, ballot_voted, choice_voted, first_choice, heard_of, is_heard, last_ballot, last_vote, later_vote, mark_voted, outcome_in, promise_of, promised_through, range_promised}
 use Rattle.mdcc_protocol.specs.Marks.{is_abort, is_commit}
 use Rattle.mdcc_struct.proofs.Order.{tx_eq-same}
 use Rattle.mdcc_base.specs.TxId.{tx_eq}
 use Rattle.mdcc_facts.specs.Adding.{is_heard_before}
-use Rattle.mdcc_protocol.specs.Stores.{ended_of}
+use Rattle.mdcc_protocol.specs.Plain.{plain_ended_of}
 use Rattle.mdcc_messages.specs.declared.facts.Fact.{Fact}
 use Rattle.mdcc_fact_folds.specs.Chains.{Covers, is_heard_of, is_promise_of, is_vote_in}
 use Rattle.mdcc_fact_folds.specs.Outcomes.{EndedByWalk, HeardAtFirst, HeardByWalk, HeardInChain, IsHeardByWalk, IsVoidByWalk, are_heard_once, first_outcome}
@@ -45,7 +45,7 @@ ended-or : (a b : Option Outcome) → option_map is_commit (option_or a b) ≡ o
 ended-or None b = refl
 ended-or (Some a) b = refl
 
-ended-gathered : (tx : TxId) (facts : List Fact) → ended_of facts tx ≡ gathered option_or None (λ fact. option_map is_commit (outcome_in tx fact)) facts
+ended-gathered : (tx : TxId) (facts : List Fact) → plain_ended_of facts tx ≡ gathered option_or None (λ fact. option_map is_commit (outcome_in tx fact)) facts
 ended-gathered tx [] = refl
 ended-gathered tx (fact ∷ facts) =
     ended-or (heard_of facts tx) (outcome_in tx fact)
@@ -63,6 +63,7 @@ some-or (Some a) b h = refl
 
 says_outcome : (tx : TxId) (fact : Fact) → is_heard_of tx fact ≡ true → is_some (outcome_in tx fact) ≡ true
 says_outcome tx (Fact.Booted epoch) h = absurd (cc)
+says_outcome tx (Fact.Floor origin era upto) h = absurd (cc)
 says_outcome tx (Fact.Promised k low high b) h = absurd (cc)
 says_outcome tx (Fact.Voted k v b options offered) h = absurd (cc)
 says_outcome tx (Fact.Heard t outcome) h = rw h refl
@@ -91,6 +92,7 @@ or-none (Some x) b h = absurd (cc)
 heard-apart : (tx : TxId) (facts : List Fact) (fact : Fact) → is_heard_before facts fact ≡ false
     → option_or (heard_of facts tx) (outcome_in tx fact) ≡ option_or (outcome_in tx fact) (heard_of facts tx)
 heard-apart tx facts (Fact.Booted epoch) h = or_right (heard_of facts tx)
+heard-apart tx facts (Fact.Floor origin era upto) h = or_right (heard_of facts tx)
 heard-apart tx facts (Fact.Promised k low high b) h = or_right (heard_of facts tx)
 heard-apart tx facts (Fact.Voted k v b options offered) h = or_right (heard_of facts tx)
 heard-apart tx facts (Fact.Heard t outcome) h =
@@ -186,6 +188,7 @@ promise-walks of_key of_instance key version covers_key covers_instance facts =
 
 pub epoch-updates : EpochUpdates
 epoch-updates facts (Fact.Booted epoch) = refl
+epoch-updates facts (Fact.Floor origin era upto) = refl
 epoch-updates facts (Fact.Promised k low high b) = refl
 epoch-updates facts (Fact.Voted k v b options offered) = refl
 epoch-updates facts (Fact.Heard t outcome) = refl
@@ -193,7 +196,7 @@ epoch-updates facts (Fact.Adopted k v item adds) = refl
 
 -- ---- votes
 
-vote-gathered : (key : Key) (version : ℕ) (tx : TxId) (facts : List Fact) → vote_of facts key version tx ≡ gathered later_vote None (mark_voted key version tx) facts
+vote-gathered : (key : Key) (version : ℕ) (tx : TxId) (facts : List Fact) → last_vote facts key version tx ≡ gathered later_vote None (mark_voted key version tx) facts
 vote-gathered key version tx [] = refl
 vote-gathered key version tx (fact ∷ facts) = ap (λ v. later_vote v (mark_voted key version tx fact)) (vote-gathered key version tx facts)
 
@@ -227,7 +230,7 @@ below-chain keep key version below covers facts =
     (λ fact left. no_ballot key version below fact (left_out keep (is_vote_in key version) covers fact left)) facts
     ∙ sym (below-gathered key version below (filter keep facts))
 
-choice-gathered : (key : Key) (version : ℕ) (tx : TxId) (facts : List Fact) → choice_known facts key version tx ≡ gathered option_or None (choice_voted key version tx) facts
+choice-gathered : (key : Key) (version : ℕ) (tx : TxId) (facts : List Fact) → first_choice facts key version tx ≡ gathered option_or None (choice_voted key version tx) facts
 choice-gathered key version tx [] = refl
 choice-gathered key version tx (fact ∷ facts) = ap (λ o. option_or o (choice_voted key version tx fact)) (choice-gathered key version tx facts)
 

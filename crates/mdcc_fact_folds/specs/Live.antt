@@ -14,8 +14,9 @@ use Rattle.mdcc_struct.specs.declared.options.Options.{Options}
 use Rattle.mdcc_messages.specs.WellFormed.{IsWellFormedFact}
 use Rattle.mdcc_messages.specs.WellFormedParts.{choice_lt, delta_lt, is_ascending_by}
 use Rattle.mdcc_messages.specs.declared.facts.Fact.{Fact}
-use Rattle.mdcc_protocol.specs.Facts.{is_void, live_and_void, live_from, live_of, marks_voted, votes_of}
-use Rattle.mdcc_protocol.specs.Stores.{count_voted, entries_at, load_at}
+use Rattle.mdcc_protocol.specs.Facts.{marks_voted, votes_of}
+use Rattle.mdcc_protocol.specs.Plain.{plain_entries_at, plain_is_void, plain_live_and_void, plain_live_from, plain_live_of, plain_load_at}
+use Rattle.mdcc_protocol.specs.Stores.{count_voted}
 use Rattle.mdcc_protocol.specs.declared.fit.Load.{Load}
 use Rattle.mdcc_escrow.specs.Weights.{no_load, with_live}
 use Rattle.mdcc_facts.specs.Adding.{MayBeAdded}
@@ -28,7 +29,7 @@ use Rattle.mdcc_fact_folds.specs.New.{entries_beside, new_entries}
 
 -- what a fact makes live in an instance that no older fact of the chain does. It is the same whatever is added later
 abbrev pub first_live : List Fact → Key → ℕ → Fact → TxMap Update
-first_live older key version fact = new_entries (live_and_void older key version) (live_from key version fact)
+first_live older key version fact = new_entries (plain_live_and_void older key version) (plain_live_from key version fact)
 
 -- without the void ones
 abbrev pub counted_live : (TxId → Bool) → List Fact → Key → ℕ → Fact → TxMap Update
@@ -43,31 +44,31 @@ load_walk seen void key version load (fact ∷ older) =
 abbrev pub LiveInChain : Type 0
 LiveInChain =
     (keep : Fact → Bool) (key : Key) (version : ℕ) → Covers keep (is_of_instance key version)
-    → (facts : List Fact) → live_of facts key version ≡ filter (λ e. not (is_void facts e.0)) (live_and_void (filter keep facts) key version)
+    → (facts : List Fact) → plain_live_of facts key version ≡ filter (λ e. not (plain_is_void facts e.0)) (plain_live_and_void (filter keep facts) key version)
 
 -- whether a transaction is void is asked of its own chain
 abbrev pub LoadByWalk : Type 0
 LoadByWalk =
     (keep : Fact → Bool) (key : Key) (version : ℕ) (seen : List TxId) → Covers keep (is_of_instance key version)
-    → (facts : List Fact) → load_at facts key version seen ≡ load_walk seen (is_void facts) key version no_load (filter keep facts)
+    → (facts : List Fact) → plain_load_at facts key version seen ≡ load_walk seen (plain_is_void facts) key version no_load (filter keep facts)
 
 -- an older update counts before a later one
 abbrev pub older_update : Key → ℕ → TxId → Option Update → Fact → Option Update
-older_update key version tx later fact = option_or (value_of (live_from key version fact) tx) later
+older_update key version tx later fact = option_or (value_of (plain_live_from key version fact) tx) later
 
 -- makes the transaction live in the instance
 abbrev pub is_live_by : Key → ℕ → TxId → Fact → Bool
-is_live_by key version tx fact = is_some (value_of (live_from key version fact) tx)
+is_live_by key version tx fact = is_some (value_of (plain_live_from key version fact) tx)
 
 abbrev pub UpdateByWalk : Type 0
 UpdateByWalk =
     (keep : Fact → Bool) (key : Key) (version : ℕ) (tx : TxId) → Covers keep (is_of_instance key version)
-    → (facts : List Fact) → value_of (live_and_void facts key version) tx ≡ fold (older_update key version tx) None (filter keep facts)
+    → (facts : List Fact) → value_of (plain_live_and_void facts key version) tx ≡ fold (older_update key version tx) None (filter keep facts)
 
 abbrev pub IsLiveByWalk : Type 0
 IsLiveByWalk =
     (keep : Fact → Bool) (key : Key) (version : ℕ) (tx : TxId) → Covers keep (is_of_instance key version)
-    → (facts : List Fact) → is_some (value_of (live_and_void facts key version) tx) ≡ list_any (is_live_by key version tx) (filter keep facts)
+    → (facts : List Fact) → is_some (value_of (plain_live_and_void facts key version) tx) ≡ list_any (is_live_by key version tx) (filter keep facts)
 
 -- ---- facts whose entries stand in order
 
@@ -85,7 +86,7 @@ WellFormedAreOrdered = (fact : Fact) → IsWellFormedFact fact → is_ordered fa
 abbrev pub FirstLiveOfOrdered : Type 0
 FirstLiveOfOrdered =
     (older : List Fact) (key : Key) (version : ℕ) (fact : Fact) → is_ordered fact ≡ true
-    → first_live older key version fact ≡ entries_beside (live_and_void older key version) (live_from key version fact)
+    → first_live older key version fact ≡ entries_beside (plain_live_and_void older key version) (plain_live_from key version fact)
 
 -- whether a transaction that a fact makes live counts: it is not void, and no older fact of the chain makes it live
 abbrev pub is_counted : (TxId → Bool) → List Fact → Key → ℕ → TxId → Bool
@@ -95,13 +96,13 @@ is_counted void older key version tx = not (void tx) && not (list_any (is_live_b
 abbrev pub load_steps : List TxId → (TxId → Bool) → Key → ℕ → Load → List Fact → Load
 load_steps seen void key version load [] = load
 load_steps seen void key version load (fact ∷ older) =
-    load_steps seen void key version (fold (with_live seen) load (filter (λ e. is_counted void older key version e.0) (live_from key version fact))) older
+    load_steps seen void key version (fold (with_live seen) load (filter (λ e. is_counted void older key version e.0) (plain_live_from key version fact))) older
 
 abbrev pub LoadBySteps : Type 0
 LoadBySteps =
     (keep : Fact → Bool) (key : Key) (version : ℕ) (seen : List TxId) → Covers keep (is_of_instance key version)
     → (facts : List Fact) → list_all is_ordered facts ≡ true
-    → load_at facts key version seen ≡ load_steps seen (is_void facts) key version no_load (filter keep facts)
+    → plain_load_at facts key version seen ≡ load_steps seen (plain_is_void facts) key version no_load (filter keep facts)
 
 -- ---- entries
 
@@ -117,12 +118,12 @@ entries_walk key version counts (fact ∷ older) =
 abbrev pub EntriesInChain : Type 0
 EntriesInChain =
     (keep : Fact → Bool) (key : Key) (version : ℕ) → Covers keep (is_vote_in key version)
-    → (facts : List Fact) → entries_at facts key version ≡ entries_at (filter keep facts) key version
+    → (facts : List Fact) → plain_entries_at facts key version ≡ plain_entries_at (filter keep facts) key version
 
 abbrev pub EntriesByWalk : Type 0
 EntriesByWalk =
     (keep : Fact → Bool) (key : Key) (version : ℕ) → Covers keep (is_vote_in key version)
-    → (facts : List Fact) → entries_at facts key version ≡ entries_walk key version (0, 0) (filter keep facts)
+    → (facts : List Fact) → plain_entries_at facts key version ≡ entries_walk key version (0, 0) (filter keep facts)
 
 -- the counts with all marks of a fact at the fast ballot
 abbrev pub with_entries : Key → ℕ → ℕ × ℕ → Fact → ℕ × ℕ
@@ -133,13 +134,13 @@ abbrev pub EntriesByFold : Type 0
 EntriesByFold =
     (keep : Fact → Bool) (key : Key) (version : ℕ) → Covers keep (is_vote_in key version)
     → (facts : List Fact) → are_voted_once facts ≡ true → list_all is_ordered facts ≡ true
-    → entries_at facts key version ≡ fold (with_entries key version) (0, 0) (filter keep facts)
+    → plain_entries_at facts key version ≡ fold (with_entries key version) (0, 0) (filter keep facts)
 
 -- so a store may keep the entries of each instance as two numbers
 abbrev pub EntriesUpdate : Type 0
 EntriesUpdate =
     (facts : List Fact) (fact : Fact) (key : Key) (version : ℕ) → MayBeAdded facts fact
-    → entries_at (fact ∷ facts) key version ≡ with_entries key version (entries_at facts key version) fact
+    → plain_entries_at (fact ∷ facts) key version ≡ with_entries key version (plain_entries_at facts key version) fact
 
 -- how many transactions of a structure were voted, with those of one more fact
 abbrev pub with_count : Key → ℕ → Ballot → Options → ℕ → Fact → ℕ

@@ -4,9 +4,9 @@ use Rattle.std.specs.Option.{option_or}
 use Rattle.std.specs.Prelude.{◌≡◌, Bool, List, None, Option, [], filter, not, option_map, true, ◌&&◌, ◌∷◌}
 use Rattle.mdcc_base.specs.declared.identifiers.TxId.{TxId}
 use Rattle.mdcc_option.specs.declared.choices.Outcome.{Outcome}
-use Rattle.mdcc_protocol.specs.Facts.{heard_of, is_heard, is_void, outcome_in}
+use Rattle.mdcc_protocol.specs.Facts.{heard_of, is_heard, outcome_in}
+use Rattle.mdcc_protocol.specs.Plain.{plain_ended_of, plain_is_void}
 use Rattle.mdcc_protocol.specs.Marks.{is_abort, is_commit}
-use Rattle.mdcc_protocol.specs.Stores.{ended_of}
 use Rattle.mdcc_messages.specs.declared.facts.Fact.{Fact}
 use Rattle.mdcc_facts.specs.Adding.{is_heard_before}
 use Rattle.mdcc_fact_folds.specs.Chains.{Covers, is_heard_of}
@@ -32,7 +32,7 @@ HeardByWalk =
 abbrev pub EndedByWalk : Type 0
 EndedByWalk =
     (keep : Fact → Bool) (tx : TxId) → Covers keep (is_heard_of tx)
-    → (facts : List Fact) → ended_of facts tx ≡ fold (older_ending tx) None (filter keep facts)
+    → (facts : List Fact) → plain_ended_of facts tx ≡ fold (older_ending tx) None (filter keep facts)
 
 -- there is a fact of it
 abbrev pub IsHeardByWalk : Type 0
@@ -43,7 +43,7 @@ IsHeardByWalk =
 abbrev pub IsVoidByWalk : Type 0
 IsVoidByWalk =
     (keep : Fact → Bool) (tx : TxId) → Covers keep (is_heard_of tx)
-    → (facts : List Fact) → is_void facts tx ≡ is_abort (fold (older_outcome tx) None (filter keep facts))
+    → (facts : List Fact) → plain_is_void facts tx ≡ is_abort (fold (older_outcome tx) None (filter keep facts))
 
 -- ---- where each transaction was heard at most once
 

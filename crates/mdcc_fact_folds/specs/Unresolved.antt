@@ -6,7 +6,8 @@ use Rattle.mdcc_base.specs.TxId.{tx_eq}
 use Rattle.mdcc_base.specs.declared.identifiers.TxId.{TxId}
 use Rattle.mdcc_base.specs.declared.key.Key.{Key}
 use Rattle.mdcc_struct.specs.Maps.{TxMap, are_ascending, value_of, with_entry}
-use Rattle.mdcc_protocol.specs.Facts.{is_heard, unresolved_of, write_sets_from, write_sets_of}
+use Rattle.mdcc_protocol.specs.Facts.{is_heard, write_sets_from, write_sets_of}
+use Rattle.mdcc_protocol.specs.Plain.{plain_unresolved_of}
 use Rattle.mdcc_messages.specs.declared.facts.Fact.{Fact}
 use Rattle.mdcc_fact_folds.specs.Chains.{Covers}
 
@@ -24,10 +25,10 @@ next_unresolved facts m (Fact.Heard tx outcome) = without tx m
 next_unresolved facts m fact = fold (with_unheard facts) m (write_sets_from fact)
 
 abbrev pub UnresolvedUpdates : Type 0
-UnresolvedUpdates = (facts : List Fact) (fact : Fact) → unresolved_of (fact ∷ facts) ≡ next_unresolved facts (unresolved_of facts) fact
+UnresolvedUpdates = (facts : List Fact) (fact : Fact) → plain_unresolved_of (fact ∷ facts) ≡ next_unresolved facts (plain_unresolved_of facts) fact
 
 abbrev pub UnresolvedAscends : Type 0
-UnresolvedAscends = (facts : List Fact) → are_ascending (unresolved_of facts) ≡ true
+UnresolvedAscends = (facts : List Fact) → are_ascending (plain_unresolved_of facts) ≡ true
 
 -- holds a choice of the transaction, accepted or offered
 abbrev pub is_choice_of : TxId → Fact → Bool
@@ -47,7 +48,7 @@ WriteSetUpdates =
 abbrev pub WriteSetUnheard : Type 0
 WriteSetUnheard =
     (facts : List Fact) (tx : TxId)
-    → value_of (unresolved_of facts) tx ≡ (if is_heard facts tx then None else value_of (write_sets_of facts) tx)
+    → value_of (plain_unresolved_of facts) tx ≡ (if is_heard facts tx then None else value_of (write_sets_of facts) tx)
 
 abbrev pub WriteSetByWalk : Type 0
 WriteSetByWalk =
@@ -60,13 +61,13 @@ WriteSetByWalk =
 abbrev pub VoteOfKnown : Type 0
 VoteOfKnown =
     (facts : List Fact) (fact : Fact) → list_all (λ e. is_some (value_of (write_sets_of facts) e.0)) (write_sets_from fact) ≡ true
-    → fold (with_unheard facts) (unresolved_of facts) (write_sets_from fact) ≡ unresolved_of facts
+    → fold (with_unheard facts) (plain_unresolved_of facts) (write_sets_from fact) ≡ plain_unresolved_of facts
 
 -- an outcome of a transaction that does not stand there
 abbrev pub OutcomeOfUnknown : Type 0
 OutcomeOfUnknown =
     (facts : List Fact) (tx : TxId) → is_some (value_of (write_sets_of facts) tx) ≡ false
-    → without tx (unresolved_of facts) ≡ unresolved_of facts
+    → without tx (plain_unresolved_of facts) ≡ plain_unresolved_of facts
 
 -- ---- a list that has numbers in the place of write sets
 

@@ -10,9 +10,9 @@ use Rattle.mdcc_option.specs.declared.choices.Choice.{Choice}
 use Rattle.mdcc_option.specs.declared.choices.Mark.{Mark}
 use Rattle.mdcc_struct.specs.Maps.{union, value_of}
 use Rattle.mdcc_struct.specs.declared.options.Options.{Options}
-use Rattle.mdcc_protocol.specs.Facts.{ballot_voted, choice_known, choice_voted, last_ballot, later_vote, mark_voted, marks_voted, vote_of, votes_of}
+use Rattle.mdcc_protocol.specs.Facts.{ballot_voted, choice_voted, first_choice, last_ballot, last_vote, later_vote, mark_voted, marks_voted, votes_of}
 use Rattle.mdcc_messages.specs.declared.facts.Fact.{Fact}
-use Rattle.mdcc_protocol.specs.Stores.{mark_after, mark_below}
+use Rattle.mdcc_protocol.specs.Plain.{plain_mark_after, plain_mark_below}
 use Rattle.mdcc_facts.specs.Listed.{are_voted_once}
 use Rattle.mdcc_facts.specs.Walks.{each_kept, is_next_tx, least_from}
 use Rattle.mdcc_fact_folds.specs.Chains.{Covers, is_vote_in}
@@ -36,12 +36,12 @@ older_choice key version tx later fact = option_or (choice_voted key version tx 
 abbrev pub VoteInChain : Type 0
 VoteInChain =
     (keep : Fact → Bool) (key : Key) (version : ℕ) (tx : TxId) → Covers keep (is_vote_in key version)
-    → (facts : List Fact) → vote_of facts key version tx ≡ vote_of (filter keep facts) key version tx
+    → (facts : List Fact) → last_vote facts key version tx ≡ last_vote (filter keep facts) key version tx
 
 abbrev pub VoteByWalk : Type 0
 VoteByWalk =
     (keep : Fact → Bool) (key : Key) (version : ℕ) (tx : TxId) → Covers keep (is_vote_in key version)
-    → (facts : List Fact) → vote_of facts key version tx ≡ fold (older_vote key version tx) None (filter keep facts)
+    → (facts : List Fact) → last_vote facts key version tx ≡ fold (older_vote key version tx) None (filter keep facts)
 
 abbrev pub VotedBelowInChain : Type 0
 VotedBelowInChain =
@@ -66,12 +66,12 @@ VotesByWalk =
 abbrev pub ChoiceInChain : Type 0
 ChoiceInChain =
     (keep : Fact → Bool) (key : Key) (version : ℕ) (tx : TxId) → Covers keep (is_vote_in key version)
-    → (facts : List Fact) → choice_known facts key version tx ≡ choice_known (filter keep facts) key version tx
+    → (facts : List Fact) → first_choice facts key version tx ≡ first_choice (filter keep facts) key version tx
 
 abbrev pub ChoiceByWalk : Type 0
 ChoiceByWalk =
     (keep : Fact → Bool) (key : Key) (version : ℕ) (tx : TxId) → Covers keep (is_vote_in key version)
-    → (facts : List Fact) → choice_known facts key version tx ≡ fold (older_choice key version tx) None (filter keep facts)
+    → (facts : List Fact) → first_choice facts key version tx ≡ fold (older_choice key version tx) None (filter keep facts)
 
 -- ---- one transaction at one ballot
 
@@ -110,12 +110,12 @@ VotesByJoin =
 abbrev pub MarkAfterInChain : Type 0
 MarkAfterInChain =
     (keep : Fact → Bool) (key : Key) (version : ℕ) (below : Ballot) (last : Option TxId) → Covers keep (is_vote_in key version)
-    → (facts : List Fact) → mark_after facts key version below last ≡ mark_after (filter keep facts) key version below last
+    → (facts : List Fact) → plain_mark_after facts key version below last ≡ plain_mark_after (filter keep facts) key version below last
 
 abbrev pub MarkBelowInChain : Type 0
 MarkBelowInChain =
     (keep : Fact → Bool) (key : Key) (version : ℕ) (below : Ballot) (place : ℕ) → Covers keep (is_vote_in key version)
-    → (facts : List Fact) → mark_below facts key version below place ≡ mark_below (filter keep facts) key version below place
+    → (facts : List Fact) → plain_mark_below facts key version below place ≡ plain_mark_below (filter keep facts) key version below place
 
 -- the least transaction above the last one that the fact votes on at a ballot, or that was found before
 abbrev pub least_above : Key → ℕ → Ballot → Option TxId → Option TxId → Fact → Option TxId
@@ -132,7 +132,7 @@ mark_walks key version below last chain =
 abbrev pub MarkAfterByWalks : Type 0
 MarkAfterByWalks =
     (keep : Fact → Bool) (key : Key) (version : ℕ) (below : Ballot) (last : Option TxId) → Covers keep (is_vote_in key version)
-    → (facts : List Fact) → mark_after facts key version below last ≡ (if is_fast below then None else mark_walks key version below last (filter keep facts))
+    → (facts : List Fact) → plain_mark_after facts key version below last ≡ (if is_fast below then None else mark_walks key version below last (filter keep facts))
 
 -- so many marks further, each time by the next one above the last
 abbrev pub marks_further : (Option TxId → Option (Ballot × TxId × Mark)) → Option TxId → ℕ → Option (Ballot × TxId × Mark)
@@ -142,4 +142,4 @@ marks_further next last (suc more) = option_and_then (λ mark. marks_further nex
 abbrev pub MarkBelowBySteps : Type 0
 MarkBelowBySteps =
     (facts : List Fact) (key : Key) (version : ℕ) (below : Ballot) (place : ℕ)
-    → mark_below facts key version below place ≡ marks_further (mark_after facts key version below) None place
+    → plain_mark_below facts key version below place ≡ marks_further (plain_mark_after facts key version below) None place

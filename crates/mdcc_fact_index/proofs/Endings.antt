@@ -17,7 +17,7 @@ use Rattle.mdcc_messages.specs.WellFormed.{IsWellFormedFact}
 use Rattle.mdcc_messages.specs.declared.facts.Fact.{Fact}
 use Rattle.mdcc_protocol.specs.Facts.{deltas_from, heard_of, is_heard, outcome_in}
 use Rattle.mdcc_protocol.specs.Marks.{Amounts, is_commit}
-use Rattle.mdcc_protocol.specs.Stores.{ended_of}
+use Rattle.mdcc_protocol.specs.Plain.{plain_ended_of}
 use Rattle.mdcc_spelling.proofs.Common.{heard_again}
 use Rattle.mdcc_spelling.proofs.Lengths.{length-fact}
 use Rattle.mdcc_chains.specs.Walks.{last_in, walk}
@@ -33,6 +33,7 @@ use Rattle.mdcc_fact_folds.specs.Entered.{heard_in}
 length-numbers_by : (fact : Fact) (number : ℕ) → length (numbers_by fact number) ≡ length (heard_in fact)
 length-numbers_by (Fact.Heard tx outcome) number = refl
 length-numbers_by (Fact.Booted epoch) number = refl
+length-numbers_by (Fact.Floor origin era upto) number = refl
 length-numbers_by (Fact.Promised key low high ballot) number = refl
 length-numbers_by (Fact.Voted key version ballot options offered) number = refl
 length-numbers_by (Fact.Adopted key version item adds) number = refl
@@ -118,6 +119,7 @@ missing tx (Fact.Heard t outcome ∷ facts) is =
           ∙ ap (λ b. if b then Some outcome else None) (tx_eq-sym t tx ∙ other)
     ]
 missing tx (Fact.Booted epoch ∷ facts) is = or-none (heard_of facts tx) ∙ missing tx facts is
+missing tx (Fact.Floor origin era upto ∷ facts) is = or-none (heard_of facts tx) ∙ missing tx facts is
 missing tx (Fact.Promised key low high ballot ∷ facts) is = or-none (heard_of facts tx) ∙ missing tx facts is
 missing tx (Fact.Voted key version ballot options offered ∷ facts) is = or-none (heard_of facts tx) ∙ missing tx facts is
 missing tx (Fact.Adopted key version item adds ∷ facts) is = or-none (heard_of facts tx) ∙ missing tx facts is
@@ -147,6 +149,7 @@ present tx (Fact.Heard t outcome ∷ facts) i readable is =
       | inr older ↦ found-more tx facts (Fact.Heard t outcome) i (present tx facts i readable.1 older)
     ]
 present tx (Fact.Booted epoch ∷ facts) i readable is = found-more tx facts (Fact.Booted epoch) i (present tx facts i readable.1 is)
+present tx (Fact.Floor origin era upto ∷ facts) i readable is = found-more tx facts (Fact.Floor origin era upto) i (present tx facts i readable.1 is)
 present tx (Fact.Promised key low high ballot ∷ facts) i readable is = found-more tx facts (Fact.Promised key low high ballot) i (present tx facts i readable.1 is)
 present tx (Fact.Voted key version ballot options offered ∷ facts) i readable is = found-more tx facts (Fact.Voted key version ballot options offered) i (present tx facts i readable.1 is)
 present tx (Fact.Adopted key version item adds ∷ facts) i readable is = found-more tx facts (Fact.Adopted key version item adds) i (present tx facts i readable.1 is)
@@ -229,7 +232,7 @@ answer-some encodings index facts tx number room result holds kept is long read 
 
 pub answer-commit : (encodings : List (List ℕ)) (index : HeardTxs) (facts : List Fact) (tx : TxId) (number : ℕ) (result : Bool) → Holds encodings facts → AreHeard index facts
     → number_found index tx ≡ Some number
-    → result ≡ is_commit_spelled (get_or encodings number []) → Some result ≡ ended_of facts tx
+    → result ≡ is_commit_spelled (get_or encodings number []) → Some result ≡ plain_ended_of facts tx
 answer-commit encodings index facts tx number result holds kept is read =
     let a : Answer encodings facts tx number = answered encodings index facts tx number holds kept is in
     ap Some (read ∙ ap is_commit_spelled a.bytes ∙ commit-again a.other a.outcome) ∙ ap (option_map is_commit) (sym a.heard)
@@ -271,6 +274,7 @@ heard-more old new facts fact number txs numbers kept number-is = record {
 pub length-heard : (fact : Fact) → length (heard_in fact) ≤ 1
 length-heard (Fact.Heard tx outcome) = omega arith
 length-heard (Fact.Booted epoch) = omega arith
+length-heard (Fact.Floor origin era upto) = omega arith
 length-heard (Fact.Promised key low high ballot) = omega arith
 length-heard (Fact.Voted key version ballot options offered) = omega arith
 length-heard (Fact.Adopted key version item adds) = omega arith
@@ -291,6 +295,7 @@ none-below numbers number below i within =
 pub below-by : (fact : Fact) (numbers : List ℕ) (number : ℕ) → AreNumbersBelow number numbers → AreNumbersBelow (number + 1) (numbers ++ numbers_by fact number)
 below-by (Fact.Heard tx outcome) numbers number below = one-below numbers number below
 below-by (Fact.Booted epoch) numbers number below = none-below numbers number below
+below-by (Fact.Floor origin era upto) numbers number below = none-below numbers number below
 below-by (Fact.Promised key low high ballot) numbers number below = none-below numbers number below
 below-by (Fact.Voted key version ballot options offered) numbers number below = none-below numbers number below
 below-by (Fact.Adopted key version item adds) numbers number below = none-below numbers number below

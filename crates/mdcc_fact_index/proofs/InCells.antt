@@ -11,6 +11,7 @@ use Rattle.mdcc_fact_index.specs.InCells.{InstancesInCells}
 
 pub instances-in_cells : InstancesInCells
 instances-in_cells (Fact.Booted epoch) fits = omega arith
+instances-in_cells (Fact.Floor origin era upto) fits = omega arith
 instances-in_cells (Fact.Promised key low high ballot) fits = omega arith
 instances-in_cells (Fact.Voted key version ballot options offered) fits = omega (arith, some-cells (Fact.Voted key version ballot options offered))
 instances-in_cells (Fact.Heard tx Outcome.Abort) fits = omega arith

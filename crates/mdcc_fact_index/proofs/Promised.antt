@@ -85,6 +85,7 @@ module _ (key : Key) (version : ℕ) (ballot : Ballot) where
         ∙ sym (or-one (promised_through facts key version ballot) (range_promised key version ballot (Fact.Promised k low high b)) later)
   ]
   ends (Fact.Booted epoch ∷ facts) later = ends facts later ∙ sym (or-one (promised_through facts key version ballot) None later)
+  ends (Fact.Floor origin era upto ∷ facts) later = ends facts later ∙ sym (or-one (promised_through facts key version ballot) None later)
   ends (Fact.Voted k v b options offered ∷ facts) later = ends facts later ∙ sym (or-one (promised_through facts key version ballot) None later)
   ends (Fact.Heard tx outcome ∷ facts) later = ends facts later ∙ sym (or-one (promised_through facts key version ballot) None later)
   ends (Fact.Adopted k v item adds ∷ facts) later = ends facts later ∙ sym (or-one (promised_through facts key version ballot) None later)
@@ -120,6 +121,7 @@ module _ (key : Key) (version : ℕ) where
         rw (other, turned) (greatest-found facts start)
   ]
   greatest-found (Fact.Booted epoch ∷ facts) start = greatest-found facts start
+  greatest-found (Fact.Floor origin era upto ∷ facts) start = greatest-found facts start
   greatest-found (Fact.Voted k v b options offered ∷ facts) start = greatest-found facts start
   greatest-found (Fact.Heard tx outcome ∷ facts) start = greatest-found facts start
   greatest-found (Fact.Adopted k v item adds ∷ facts) start = greatest-found facts start
@@ -141,6 +143,7 @@ promised-more old new facts fact keys ranges promised = record {
 pub length-promised : (fact : Fact) → length (map (λ (entry : Key × Promise). entry.0) (promised_by fact)) ≤ 1
 length-promised (Fact.Promised key low high ballot) = omega arith
 length-promised (Fact.Booted epoch) = omega arith
+length-promised (Fact.Floor origin era upto) = omega arith
 length-promised (Fact.Voted key version ballot options offered) = omega arith
 length-promised (Fact.Heard tx outcome) = omega arith
 length-promised (Fact.Adopted key version item adds) = omega arith

@@ -23,7 +23,7 @@ use Rattle.mdcc_struct.proofs.Order.{tx_eq-same}
 use Rattle.mdcc_struct.proofs.Values.{value_of-union}
 use Rattle.mdcc_messages.specs.declared.facts.Fact.{Fact}
 use Rattle.mdcc_protocol.specs.Facts.{deltas_at, deltas_from, heard_of, is_heard, later_vote, mark_voted, marks_voted, outcome_in, write_set_in, write_sets_from, write_sets_of}
-use Rattle.mdcc_protocol.specs.Stores.{entries_at}
+use Rattle.mdcc_protocol.specs.Plain.{plain_entries_at}
 use Rattle.mdcc_facts.specs.Adding.{MayBeAdded}
 use Rattle.mdcc_facts.specs.Weights.{with_mark}
 use Rattle.mdcc_chains.specs.Keys.{instance_eq, instance_eq-one}
@@ -179,6 +179,7 @@ given-heard facts t outcome key version tx before same none =
 
 given-more : (facts : List Fact) (fact : Fact) (key : Key) (version : ℕ) → MayBeAdded facts fact → adopts key version fact ≡ false → AreGivenByOutcomes facts key version → AreGivenByOutcomes (fact ∷ facts) key version
 given-more facts (Fact.Booted epoch) key version may other before tx = given-still facts (Fact.Booted epoch) key version tx (before tx) refl refl
+given-more facts (Fact.Floor origin era upto) key version may other before tx = given-still facts (Fact.Floor origin era upto) key version tx (before tx) refl refl
 given-more facts (Fact.Promised k low high b) key version may other before tx = given-still facts (Fact.Promised k low high b) key version tx (before tx) refl refl
 given-more facts (Fact.Voted k v b options offered) key version may other before tx = given-still facts (Fact.Voted k v b options offered) key version tx (before tx) refl refl
 given-more facts (Fact.Heard t outcome) key version may other before tx = elim (cases_Bool (tx_eq t tx)) [
@@ -206,7 +207,7 @@ module _ (tally : Tally) (facts : List Fact) (key : Key) (version : ℕ) (is : I
   tally-same fact marks votes other fast may = record {
     ballot = is.ballot ∙ sym (ap (ballot_max (greatest_voted facts key version)) fast ∙ max_right (greatest_voted facts key version));
     given = λ free. given-more facts fact key version may other (is.given free);
-    entries = is.entries ∙ sym (entries-update facts fact key version may ∙ ap (fold with_mark (entries_at facts key version)) (marks fast_ballot));
+    entries = is.entries ∙ sym (entries-update facts fact key version may ∙ ap (fold with_mark (plain_entries_at facts key version)) (marks fast_ballot));
     known = λ free tx h. ap (λ v. later_vote v (mark_voted key version tx fact)) (is.known free tx (unknown-before fact tx h).0) ∙ votes tx;
   }
 
@@ -240,7 +241,7 @@ module _ (tally : Tally) (facts : List Fact) (key : Key) (version : ℕ) (is : I
       record {
         entries = sym (counted-marks ballot options)
             ∙ ap (λ counts. fold with_mark counts (if ballot_eq ballot fast_ballot then options else [])) is.entries
-            ∙ sym (entries-update facts fact key version may ∙ ap (fold with_mark (entries_at facts key version)) marks);
+            ∙ sym (entries-update facts fact key version may ∙ ap (fold with_mark (plain_entries_at facts key version)) marks);
         ballot = rw (same-version, same-key) (ap (λ b. ballot_max b ballot) is.ballot);
         given = λ free. given-more facts (Fact.Voted k v ballot options offered) key version may refl (is.given free);
         known = λ free tx h.
@@ -314,6 +315,8 @@ tallies-kept old facts (Fact.Voted k v ballot options offered) no_vote no_adopti
 tallies-kept old facts (Fact.Adopted k v item adds) no_vote no_adoption holds may = absurd (no_adoption k v item adds refl)
 tallies-kept old facts (Fact.Booted epoch) no_vote no_adoption holds may =
     tallies-same old facts (Fact.Booted epoch) (λ k v b. refl) (λ k v tx. refl) (λ k v. refl) (λ k v. refl) holds may
+tallies-kept old facts (Fact.Floor origin era upto) no_vote no_adoption holds may =
+    tallies-same old facts (Fact.Floor origin era upto) (λ k v b. refl) (λ k v tx. refl) (λ k v. refl) (λ k v. refl) holds may
 tallies-kept old facts (Fact.Promised k low high b) no_vote no_adoption holds may =
     tallies-same old facts (Fact.Promised k low high b) (λ k v b. refl) (λ k v tx. refl) (λ k v. refl) (λ k v. refl) holds may
 tallies-kept old facts (Fact.Heard t outcome) no_vote no_adoption holds may =

@@ -10,8 +10,8 @@ use Rattle.mdcc_struct.specs.Maps.{value_of}
 use Rattle.mdcc_struct.specs.Options.{accepts_in, rejects_in}
 use Rattle.mdcc_struct.specs.declared.options.Options.{Options}
 use Rattle.mdcc_messages.specs.declared.facts.Fact.{Fact}
-use Rattle.mdcc_protocol.specs.Facts.{deltas_at, heard_of, vote_of, write_sets_of}
-use Rattle.mdcc_protocol.specs.Stores.{entries_at}
+use Rattle.mdcc_protocol.specs.Facts.{deltas_at, heard_of, last_vote, write_sets_of}
+use Rattle.mdcc_protocol.specs.Plain.{plain_entries_at}
 use Rattle.mdcc_chains.specs.Keyed.{Keyed}
 use Rattle.mdcc_chains.specs.Keys.{instance_eq}
 use Rattle.mdcc_chains.specs.Walks.{first_in, walk}
@@ -88,10 +88,10 @@ AreGivenByOutcomes facts key version = (tx : TxId) → value_of (deltas_at facts
 
 -- its counts are the entries, and its ballot is the greatest voted one. Where it is not bare, no transaction was voted in the instance of which no fact has a choice. Where nothing was adopted, each delta is that of an outcome
 pub record IsTally (tally : Tally) (facts : List Fact) (key : Key) (version : ℕ) : Type 0 where
-  pub entries : (tally.accepts, tally.rejects) ≡ entries_at facts key version
+  pub entries : (tally.accepts, tally.rejects) ≡ plain_entries_at facts key version
   pub given : tally.adopted ≡ false → AreGivenByOutcomes facts key version
   pub ballot : tally.ballot ≡ greatest_voted facts key version
-  pub known : tally.bare ≡ false → (tx : TxId) → value_of (write_sets_of facts) tx ≡ None → vote_of facts key version tx ≡ None
+  pub known : tally.bare ≡ false → (tx : TxId) → value_of (write_sets_of facts) tx ≡ None → last_vote facts key version tx ≡ None
 
 abbrev pub HoldsTallies : Tallied → List Fact → Type 0
 HoldsTallies t facts = (key : Key) (version : ℕ) → IsTally (tally_in t (key, version)) facts key version

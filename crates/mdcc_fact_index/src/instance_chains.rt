@@ -141,7 +141,7 @@ impl InstanceChains {
             Fact::Voted { key, version, .. } => self.push(*key, *version, number),
             Fact::Adopted { key, version, .. } => self.push(*key, *version, number),
             Fact::Heard { outcome, .. } => self.push_outcome(outcome, number),
-            Fact::Booted(_) | Fact::Promised { .. } => {}
+            Fact::Booted(_) | Fact::Promised { .. } | Fact::Floor { .. } => {}
         }
     }
 

@@ -3,7 +3,7 @@ ghost use Rattle.std.specs.Prelude.{◌≡◌, ◌∷◌, ◌++◌, ◌<◌, ◌
 ghost use Rattle.mdcc_struct.specs.Maps.{value_of};
 ghost use Rattle.mdcc_messages.specs.declared.facts.Fact.{Fact as AFact};
 ghost use Rattle.mdcc_protocol.specs.Facts.{heard_of};
-ghost use Rattle.mdcc_protocol.specs.Stores.{ended_of};
+ghost use Rattle.mdcc_protocol.specs.Plain.{plain_ended_of};
 ghost use Rattle.mdcc_fact_cells.specs.Holding.{Holds};
 ghost use Rattle.mdcc_fact_index.specs.Heard.{AreHeard, AreNumbersBelow, ended_told, given_by, is_commit_spelled, number_found, numbers_by, outcome_spelled};
 ghost use Rattle.mdcc_fact_folds.specs.Entered.{heard_in};
@@ -148,7 +148,7 @@ impl OutcomeIndex {
     pub fn ended(&self, cells: &FactCells, tx: TxId) -> Option<bool>
         requires { AreNumbersBelow (length cells.now.encodings) self.now.numbers }
         ensures told { result ≡ ended_told cells.now.encodings self.now tx }
-        ensures ended { (facts : List AFact) → Holds cells.now.encodings facts → AreHeard self.now facts → result ≡ ended_of facts tx }
+        ensures ended { (facts : List AFact) → Holds cells.now.encodings facts → AreHeard self.now facts → result ≡ plain_ended_of facts tx }
     {
         match self.number_of(&tx) {
             Some(number) => Some(is_commit_at(cells, number)),

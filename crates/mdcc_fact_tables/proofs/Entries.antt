@@ -63,6 +63,7 @@ some-cell bytes some = let cells = div_ceil_times bytes 60 (omega arith) in omeg
 
 pub keys-in_cells : KeysInCells
 keys-in_cells (Fact.Booted epoch) formed = omega arith
+keys-in_cells (Fact.Floor origin era upto) formed = omega arith
 keys-in_cells (Fact.Promised key low high ballot) formed = omega arith
 keys-in_cells (Fact.Voted key version ballot options offered) formed = omega arith
 keys-in_cells (Fact.Heard tx Outcome.Abort) formed = omega arith
@@ -74,6 +75,7 @@ keys-in_cells (Fact.Adopted key version item adds) formed = some-cell (fact_leng
 
 pub transactions-in_cells : TransactionsInCells
 transactions-in_cells (Fact.Booted epoch) formed = omega arith
+transactions-in_cells (Fact.Floor origin era upto) formed = omega arith
 transactions-in_cells (Fact.Promised key low high ballot) formed = omega arith
 transactions-in_cells (Fact.Voted key version ballot options None) formed =
     let least = marks-least key version options formed.options_itself.each in

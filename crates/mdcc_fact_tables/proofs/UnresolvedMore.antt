@@ -9,7 +9,8 @@ use Rattle.mdcc_base.specs.declared.identifiers.TxId.{TxId}
 use Rattle.mdcc_base.specs.declared.key.Key.{Key}
 use Rattle.mdcc_struct.specs.Maps.{TxMap, are_ascending, inserted, txs_of, value_of, with_entry}
 use Rattle.mdcc_struct.proofs.Inclusion.{same_found}
-use Rattle.mdcc_protocol.specs.Facts.{is_heard, unresolved_of, write_sets_from}
+use Rattle.mdcc_protocol.specs.Facts.{is_heard, write_sets_from}
+use Rattle.mdcc_protocol.specs.Plain.{plain_unresolved_of}
 use Rattle.mdcc_messages.specs.declared.facts.Fact.{Fact}
 use Rattle.mdcc_chains.specs.Unresolved.{without}
 use Rattle.mdcc_fact_folds.specs.Unresolved.{listed_by, with_unheard as with_unheard_of}
@@ -131,6 +132,7 @@ below-next heard number m fact below = by fact
 
     by : (fact : Fact) → AreBelow (number + 1) (next_numbers heard number m fact)
     by (Fact.Booted epoch) = all (Fact.Booted epoch)
+    by (Fact.Floor origin era upto) = all (Fact.Floor origin era upto)
     by (Fact.Promised k low high b) = all (Fact.Promised k low high b)
     by (Fact.Voted k v b options offered) = all (Fact.Voted k v b options offered)
     by (Fact.Heard t outcome) = below-without (number + 1) m t wider
@@ -175,6 +177,7 @@ length-without (e ∷ es) tx =
 
 pub length-next : (heard : TxId → Bool) (number : ℕ) (m : TxMap ℕ) (fact : Fact) → length (next_numbers heard number m fact) ≤ length m + length (write_sets_from fact)
 length-next heard number m (Fact.Booted epoch) = length-with_all heard number m (write_sets_from (Fact.Booted epoch))
+length-next heard number m (Fact.Floor origin era upto) = length-with_all heard number m (write_sets_from (Fact.Floor origin era upto))
 length-next heard number m (Fact.Promised k low high b) = length-with_all heard number m (write_sets_from (Fact.Promised k low high b))
 length-next heard number m (Fact.Voted k v b options offered) = length-with_all heard number m (write_sets_from (Fact.Voted k v b options offered))
 length-next heard number m (Fact.Heard t outcome) = let few = length-without m t in omega (arith, few)
@@ -234,12 +237,12 @@ txs-kept keep (e ∷ es) =
 
 module _ (entries : TxMap ℕ) (facts : List Fact) (lists : ListsUnresolved entries facts) where
   abbrev u : TxMap (List (Key × ℕ))
-  u = unresolved_of facts
+  u = plain_unresolved_of facts
 
   older-here : (fact : Fact) (tx : TxId) → option_and_then (λ n. write_set_at facts n tx) (value_of entries tx) ≡ option_and_then (λ n. write_set_at (fact ∷ facts) n tx) (value_of entries tx)
   older-here fact tx = older-read facts fact tx (value_of entries tx) (value-below (length facts) entries tx lists.numbers)
 
-  lists-heard : (t : TxId) (fact : Fact) → unresolved_of (fact ∷ facts) ≡ filter (λ e. not (tx_eq e.0 t)) u → AreBelow (length facts + 1) (without entries t)
+  lists-heard : (t : TxId) (fact : Fact) → plain_unresolved_of (fact ∷ facts) ≡ filter (λ e. not (tx_eq e.0 t)) u → AreBelow (length facts + 1) (without entries t)
       → ListsUnresolved (without entries t) (fact ∷ facts)
   lists-heard t fact is below = record {
     txs = txs-kept (λ s. not (tx_eq s t)) entries ∙ ap (filter (λ s. not (tx_eq s t))) lists.txs ∙ sym (txs-kept (λ s. not (tx_eq s t)) u) ∙ ap txs_of (sym is);
@@ -270,9 +273,9 @@ module _ (entries : TxMap ℕ) (facts : List Fact) (lists : ListsUnresolved entr
     read-newest : (tx : TxId) → write_set_at (fact ∷ facts) number tx ≡ value_of es tx
     read-newest tx = rw (newest, numbered-newest fact facts) refl
 
-    lists-vote : unresolved_of (fact ∷ facts) ≡ fold (with_unheard_of facts) u es → AreBelow (number + 1) next → ListsUnresolved next (fact ∷ facts)
+    lists-vote : plain_unresolved_of (fact ∷ facts) ≡ fold (with_unheard_of facts) u es → AreBelow (number + 1) next → ListsUnresolved next (fact ∷ facts)
     lists-vote is below = record {
-      txs = txs-alike next (unresolved_of (fact ∷ facts)) next-ascends (unresolved-ascends (fact ∷ facts))
+      txs = txs-alike next (plain_unresolved_of (fact ∷ facts)) next-ascends (unresolved-ascends (fact ∷ facts))
           (λ tx. ap is_some (next-value tx)
           ∙ some-vote (value_of u tx) (value_of entries tx) (is_heard facts tx) (value_of es tx) number (some-alike entries u tx lists.txs)
           ∙ ap is_some (sym (folded-value facts u es tx)) ∙ ap (λ m. is_some (value_of m tx)) (sym is));
@@ -291,12 +294,13 @@ lists-more heard entries facts fact number lists tells newest = by fact
     below : (fact : Fact) → AreBelow (number + 1) (next_numbers heard number entries fact)
     below fact = below-next heard number entries fact (below-more (length facts) number entries (omega arith) lists.numbers)
 
-    vote : (fact : Fact) → unresolved_of (fact ∷ facts) ≡ fold (with_unheard_of facts) (unresolved_of facts) (write_sets_from fact)
+    vote : (fact : Fact) → plain_unresolved_of (fact ∷ facts) ≡ fold (with_unheard_of facts) (plain_unresolved_of facts) (write_sets_from fact)
         → AreBelow (number + 1) (with_all_unheard heard number entries (txs_of (write_sets_from fact))) → ListsUnresolved (with_all_unheard heard number entries (txs_of (write_sets_from fact))) (fact ∷ facts)
     vote fact = lists-vote entries facts lists heard tells number newest fact
 
     by : (fact : Fact) → ListsUnresolved (next_numbers heard number entries fact) (fact ∷ facts)
     by (Fact.Booted epoch) = vote (Fact.Booted epoch) (unresolved-updates facts (Fact.Booted epoch)) (below (Fact.Booted epoch))
+    by (Fact.Floor origin era upto) = vote (Fact.Floor origin era upto) (unresolved-updates facts (Fact.Floor origin era upto)) (below (Fact.Floor origin era upto))
     by (Fact.Promised k low high b) = vote (Fact.Promised k low high b) (unresolved-updates facts (Fact.Promised k low high b)) (below (Fact.Promised k low high b))
     by (Fact.Voted k v b options offered) = vote (Fact.Voted k v b options offered) (unresolved-updates facts (Fact.Voted k v b options offered)) (below (Fact.Voted k v b options offered))
     by (Fact.Heard t outcome) =

@@ -8,7 +8,7 @@ use Rattle.mdcc_base.specs.declared.identifiers.TxId.{TxId}
 use Rattle.mdcc_struct.specs.Maps.{TxMap, are_ascending, txs_of, value_of}
 use Rattle.mdcc_struct.proofs.Order.{tx_eq-refl, tx_eq-same}
 use Rattle.mdcc_struct.proofs.Ordered.{ascending-below, ascending-tail, value_of-below}
-use Rattle.mdcc_protocol.specs.Facts.{unresolved_of}
+use Rattle.mdcc_protocol.specs.Plain.{plain_unresolved_of}
 use Rattle.mdcc_messages.specs.declared.facts.Fact.{Fact}
 use Rattle.mdcc_fact_folds.proofs.Unheard.{unresolved-ascends}
 use Rattle.mdcc_fact_tables.specs.UnresolvedNumbers.{AllUnresolvedAreRead, ListsUnresolved, UnresolvedIsRead, WriteSetIsRead, with_write_set, write_set_at}
@@ -66,14 +66,14 @@ place-given f (e ∷ es) [] place given = absurd given
 place-given f (e ∷ es) (w ∷ ws) zero given = sym given.0
 place-given f (e ∷ es) (w ∷ ws) (suc place) given = place-given f es ws place given.1
 
-lists-given : (entries : TxMap ℕ) (facts : List Fact) → ListsUnresolved entries facts → AreGiven (with_write_set facts) entries (unresolved_of facts)
-lists-given entries facts lists = given-all (λ tx number. write_set_at facts number tx) entries (unresolved_of facts) lists.txs (unresolved-ascends facts) lists.write_sets
+lists-given : (entries : TxMap ℕ) (facts : List Fact) → ListsUnresolved entries facts → AreGiven (with_write_set facts) entries (plain_unresolved_of facts)
+lists-given entries facts lists = given-all (λ tx number. write_set_at facts number tx) entries (plain_unresolved_of facts) lists.txs (unresolved-ascends facts) lists.write_sets
 
 pub unresolved-read : UnresolvedIsRead
-unresolved-read entries facts place lists = place-given (with_write_set facts) entries (unresolved_of facts) place (lists-given entries facts lists)
+unresolved-read entries facts place lists = place-given (with_write_set facts) entries (plain_unresolved_of facts) place (lists-given entries facts lists)
 
 pub all-read : AllUnresolvedAreRead
-all-read entries facts lists = all-given (with_write_set facts) entries (unresolved_of facts) (lists-given entries facts lists)
+all-read entries facts lists = all-given (with_write_set facts) entries (plain_unresolved_of facts) (lists-given entries facts lists)
 
 pub write_set-read : WriteSetIsRead
 write_set-read facts number fact tx at = rw at refl

@@ -5,8 +5,8 @@ use Rattle.std.specs.List.{AllByRecursion}
 use Rattle.mdcc_base.specs.declared.identifiers.TxId.{TxId}
 use Rattle.mdcc_base.specs.declared.key.Key.{Key}
 use Rattle.mdcc_struct.specs.Maps.{TxMap, txs_of, value_of, with_entry}
-use Rattle.mdcc_protocol.specs.Facts.{is_heard, unresolved_of, write_sets_from}
-use Rattle.mdcc_protocol.specs.Stores.{unresolved_at}
+use Rattle.mdcc_protocol.specs.Facts.{is_heard, write_sets_from}
+use Rattle.mdcc_protocol.specs.Plain.{plain_unresolved_at, plain_unresolved_of}
 use Rattle.mdcc_messages.specs.declared.facts.Fact.{Fact}
 use Rattle.mdcc_chains.specs.Unresolved.{without}
 use Rattle.mdcc_fact_tables.specs.Numbers.{numbered}
@@ -38,8 +38,8 @@ AreBelow number entries = AllByRecursion (λ e. e.1 < number) entries
 
 -- the table has the unresolved transactions, ascending, and of each the number of a fact that has its write set
 pub record ListsUnresolved (entries : TxMap ℕ) (facts : List Fact) : Type 0 where
-  pub txs : txs_of entries ≡ txs_of (unresolved_of facts)
-  pub write_sets : (tx : TxId) → value_of (unresolved_of facts) tx ≡ option_and_then (λ number. write_set_at facts number tx) (value_of entries tx)
+  pub txs : txs_of entries ≡ txs_of (plain_unresolved_of facts)
+  pub write_sets : (tx : TxId) → value_of (plain_unresolved_of facts) tx ≡ option_and_then (λ number. write_set_at facts number tx) (value_of entries tx)
   pub numbers : AreBelow (length facts) entries
 
 -- a test of transactions is that of these facts
@@ -58,7 +58,7 @@ WriteSetIsRead =
 
 abbrev pub UnresolvedIsRead : Type 0
 UnresolvedIsRead =
-    (entries : TxMap ℕ) (facts : List Fact) (place : ℕ) → ListsUnresolved entries facts → unresolved_at facts place ≡ option_and_then (with_write_set facts) (slice_get entries place)
+    (entries : TxMap ℕ) (facts : List Fact) (place : ℕ) → ListsUnresolved entries facts → plain_unresolved_at facts place ≡ option_and_then (with_write_set facts) (slice_get entries place)
 
 abbrev pub AllUnresolvedAreRead : Type 0
-AllUnresolvedAreRead = (entries : TxMap ℕ) (facts : List Fact) → ListsUnresolved entries facts → unresolved_of facts ≡ filter_map (with_write_set facts) entries
+AllUnresolvedAreRead = (entries : TxMap ℕ) (facts : List Fact) → ListsUnresolved entries facts → plain_unresolved_of facts ≡ filter_map (with_write_set facts) entries

@@ -131,6 +131,7 @@ count-union votes marks (e ∷ es) h =
 voted-apart : (facts : List Fact) (fact : Fact) (key : Key) (version : ℕ) (ballot : Ballot) → is_voted_before facts fact ≡ false
     → list_any (has (votes_of facts key version ballot)) (marks_voted key version ballot fact) ≡ false
 voted-apart facts (Fact.Booted epoch) key version ballot h = refl
+voted-apart facts (Fact.Floor origin era upto) key version ballot h = refl
 voted-apart facts (Fact.Promised k low high b) key version ballot h = refl
 voted-apart facts (Fact.Voted k v b options offered) key version ballot h = by (v == version && ballot_eq b ballot && key_eq k key) refl
   where

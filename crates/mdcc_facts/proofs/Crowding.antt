@@ -48,6 +48,7 @@ no_deltas (c ∷ cs) key version h =
 
 pub no_version_from : (fact : Fact) (key : Key) → has_key key (keys_in fact) ≡ false → version_from key fact ≡ 0
 no_version_from (Fact.Booted epoch) key h = refl
+no_version_from (Fact.Floor origin era upto) key h = refl
 no_version_from (Fact.Promised k low high ballot) key h = refl
 no_version_from (Fact.Voted k version ballot options offered) key h = refl
 no_version_from (Fact.Heard tx Outcome.Abort) key h = refl
@@ -60,6 +61,7 @@ no_version_from (Fact.Adopted k version item adds) key h =
 
 pub no_deltas_from : (fact : Fact) (key : Key) (v : ℕ) → has_key key (keys_in fact) ≡ false → deltas_from key v fact ≡ []
 no_deltas_from (Fact.Booted epoch) key v h = refl
+no_deltas_from (Fact.Floor origin era upto) key v h = refl
 no_deltas_from (Fact.Promised k low high ballot) key v h = refl
 no_deltas_from (Fact.Voted k version ballot options offered) key v h = refl
 no_deltas_from (Fact.Heard tx Outcome.Abort) key v h = refl
@@ -105,4 +107,5 @@ listed_added items facts fact h new free = record {
   newest_first = sym (reverse-append items (fact ∷ []) ∙ ap (λ xs. fact ∷ xs) (sym h.newest_first));
   few = few_added facts fact (rw h.newest_first free) h.few;
   once = rw (new.voted, h.once) refl;
+  no_floor = rw new.no_floor h.no_floor;
 }

@@ -12,7 +12,8 @@ use Rattle.mdcc_option.specs.declared.choices.Mark.{Mark}
 use Rattle.mdcc_option.specs.declared.items.Update.{Update}
 use Rattle.mdcc_struct.specs.Maps.{TxMap, are_ascending, union, value_of}
 use Rattle.mdcc_struct.proofs.Walks.{ascending-union, union-none}
-use Rattle.mdcc_protocol.specs.Facts.{last_ballot, live_and_void, live_from, marks_voted, report_of, votes_of, write_sets_from, write_sets_of}
+use Rattle.mdcc_protocol.specs.Facts.{last_ballot, marks_voted, votes_of, write_sets_from, write_sets_of}
+use Rattle.mdcc_protocol.specs.Plain.{plain_live_and_void, plain_live_from, plain_report_of}
 use Rattle.mdcc_messages.specs.declared.facts.Fact.{Fact}
 use Rattle.mdcc_facts.specs.Walks.{is_next_tx, least_from, next_tx}
 use Rattle.mdcc_facts.proofs.Walking.{least_union, value_union}
@@ -21,16 +22,16 @@ pub ascending-votes : (facts : List Fact) (key : Key) (version : ℕ) (ballot : 
 ascending-votes [] key version ballot = refl
 ascending-votes (f ∷ fs) key version ballot = ascending-union (votes_of fs key version ballot) (marks_voted key version ballot f) (ascending-votes fs key version ballot)
 
-pub ascending-report : (facts : List Fact) (key : Key) (version : ℕ) (below : Ballot) → are_ascending (report_of 0 facts key version below).votes ≡ true
+pub ascending-report : (facts : List Fact) (key : Key) (version : ℕ) (below : Ballot) → are_ascending (plain_report_of 0 facts key version below).votes ≡ true
 ascending-report facts key version below =
     elim (cases_Bool (is_fast below)) [
       | inl fast ↦ rw fast refl
       | inr classic ↦ rw classic (ascending-votes facts key version (last_ballot facts key version below))
     ]
 
-pub ascending-live : (facts : List Fact) (key : Key) (version : ℕ) → are_ascending (live_and_void facts key version) ≡ true
+pub ascending-live : (facts : List Fact) (key : Key) (version : ℕ) → are_ascending (plain_live_and_void facts key version) ≡ true
 ascending-live [] key version = refl
-ascending-live (f ∷ fs) key version = ascending-union (live_and_void fs key version) (live_from key version f) (ascending-live fs key version)
+ascending-live (f ∷ fs) key version = ascending-union (plain_live_and_void fs key version) (plain_live_from key version f) (ascending-live fs key version)
 
 pub ascending-write_sets : (facts : List Fact) → are_ascending (write_sets_of facts) ≡ true
 ascending-write_sets [] = refl
@@ -61,10 +62,10 @@ module _ (facts : List Fact) (i : ℕ) (fact : Fact) (within : i < length facts)
       rw (next_is, h) (least_union (is_next_tx keep last) None (votes_of older key version ballot) (marks_voted key version ballot fact))
 
   pub live-next : (keep : TxId → Bool) (last : Option TxId) (key : Key) (version : ℕ) (least : Option TxId)
-      → least ≡ next_tx keep last (live_and_void (reverse (take i facts)) key version)
-      → least_from (is_next_tx keep last) least (live_from key version fact) ≡ next_tx keep last (live_and_void (reverse (take (i + 1) facts)) key version)
+      → least ≡ next_tx keep last (plain_live_and_void (reverse (take i facts)) key version)
+      → least_from (is_next_tx keep last) least (plain_live_from key version fact) ≡ next_tx keep last (plain_live_and_void (reverse (take (i + 1) facts)) key version)
   live-next keep last key version least h =
-      rw (next_is, h) (least_union (is_next_tx keep last) None (live_and_void older key version) (live_from key version fact))
+      rw (next_is, h) (least_union (is_next_tx keep last) None (plain_live_and_void older key version) (plain_live_from key version fact))
 
   pub write_sets-next : (keep : TxId → Bool) (last : Option TxId) (least : Option TxId)
       → least ≡ next_tx keep last (write_sets_of (reverse (take i facts)))
@@ -82,10 +83,10 @@ module _ (facts : List Fact) (i : ℕ) (fact : Fact) (within : i < length facts)
       rw (next_is, h) (sym (value_union (votes_of older key version ballot) (marks_voted key version ballot fact) tx))
 
   pub update-next : (key : Key) (version : ℕ) (tx : TxId) (update : Option Update)
-      → update ≡ value_of (live_and_void (reverse (take i facts)) key version) tx
-      → option_or update (value_of (live_from key version fact) tx) ≡ value_of (live_and_void (reverse (take (i + 1) facts)) key version) tx
+      → update ≡ value_of (plain_live_and_void (reverse (take i facts)) key version) tx
+      → option_or update (value_of (plain_live_from key version fact) tx) ≡ value_of (plain_live_and_void (reverse (take (i + 1) facts)) key version) tx
   update-next key version tx update h =
-      rw (next_is, h) (sym (value_union (live_and_void older key version) (live_from key version fact) tx))
+      rw (next_is, h) (sym (value_union (plain_live_and_void older key version) (plain_live_from key version fact) tx))
 
   pub write_set-next : (tx : TxId) (write_set : Option (List (Key × ℕ)))
       → write_set ≡ value_of (write_sets_of (reverse (take i facts))) tx

@@ -1,8 +1,7 @@
 pub mod Counting
 pub mod Crowding
 pub mod Gathered
-pub mod Heard
 pub mod Marked
+pub mod Unfinished
 pub mod Walking
 pub mod Weighing
-pub mod Without

@@ -2,7 +2,7 @@
 use Rattle.std.specs.List.{list_any}
 use Rattle.std.specs.Prelude.{◌≡◌, ◌≤◌, Bool, Err, List, Ok, Result, false, if◌then◌else◌, is_some, nat_lt, true, ℕ}
 use Rattle.mdcc_struct.specs.Maps.{value_of}
-use Rattle.mdcc_protocol.specs.Facts.{is_heard, promised_through, votes_of}
+use Rattle.mdcc_protocol.specs.Facts.{is_floor, is_heard, promised_through, votes_of}
 use Rattle.mdcc_protocol.specs.News.{is_crowding}
 use Rattle.mdcc_messages.specs.Lengths.{fact_length}
 use Rattle.mdcc_messages.specs.WellFormed.{IsWellFormedFact}
@@ -27,13 +27,14 @@ abbrev pub is_heard_before : List Fact → Fact → Bool
 is_heard_before facts (Fact.Heard tx outcome) = is_heard facts tx
 is_heard_before facts _ = false
 
--- it is well-formed, has at most as many bytes as a frame of a log holds, and says nothing a second time
+-- it is well-formed, has at most as many bytes as a frame of a log holds, and says nothing a second time. No store takes a floor yet
 pub record MayBeAdded (facts : List Fact) (fact : Fact) : Type 0 where
   pub well_formed : IsWellFormedFact fact
   pub short : fact_length fact ≤ 2097152
   pub promised : is_promised_before facts fact ≡ false
   pub voted : is_voted_before facts fact ≡ false
   pub heard : is_heard_before facts fact ≡ false
+  pub no_floor : is_floor fact ≡ false
 
 -- ---- what the store answers
 

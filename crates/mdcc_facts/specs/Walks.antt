@@ -6,7 +6,8 @@ use Rattle.mdcc_option.specs.declared.items.Delta.{Delta}
 use Rattle.mdcc_option.specs.declared.items.Update.{Update}
 use Rattle.mdcc_struct.specs.Maps.{TxMap}
 use Rattle.mdcc_struct.specs.declared.options.Options.{Options}
-use Rattle.mdcc_protocol.specs.Facts.{is_heard, is_void}
+use Rattle.mdcc_protocol.specs.Facts.{is_heard}
+use Rattle.mdcc_protocol.specs.Plain.{plain_is_void}
 use Rattle.mdcc_protocol.specs.Marks.{Amounts}
 use Rattle.mdcc_protocol.specs.Stores.{is_above}
 use Rattle.mdcc_messages.specs.declared.facts.Fact.{Fact}
@@ -56,7 +57,7 @@ abbrev pub each_kept : TxId → Bool
 each_kept tx = true
 
 abbrev pub is_not_void : List Fact → TxId → Bool
-is_not_void facts tx = not (is_void facts tx)
+is_not_void facts tx = not (plain_is_void facts tx)
 
 abbrev pub is_not_heard : List Fact → TxId → Bool
 is_not_heard facts tx = not (is_heard facts tx)

@@ -1,12 +1,13 @@
 //! What a store of facts promises.
-ghost use Rattle.std.specs.Prelude.{◌≡◌, ◌+◌, ◌∷◌, ℕ, IfOk, List, OnErr, OnOk};
+ghost use Rattle.std.specs.Prelude.{◌≡◌, ◌+◌, ◌∷◌, ℕ, IfOk, IsTrue, List, OnErr, OnOk, true};
 ghost use Rattle.mdcc_base.specs.Unless.{GivesUnless};
 ghost use Rattle.mdcc_messages.specs.declared.facts.Fact.{Fact as AFact};
-ghost use Rattle.mdcc_protocol.specs.Facts.{base_of, choice_known, current_of, epoch_of, executed_of, heard_of, is_heard, last_ballot, promise_of, promised_through, unresolved_of, vote_of, votes_of};
+ghost use Rattle.mdcc_protocol.specs.Facts.{base_of, choice_known, current_of, epoch_of, executed_of, is_finished, is_heard, is_settled, last_ballot, outcome_kept, promise_of, promised_through, shown_of, unresolved_of, vote_of};
 ghost use Rattle.mdcc_protocol.specs.News.{is_crowding};
-ghost use Rattle.mdcc_protocol.specs.Stores.{count_voted, delta_of, ended_of, entries_at, load_at, mark_after, mark_below, unresolved_at};
+ghost use Rattle.mdcc_protocol.specs.Stores.{delta_of, ended_of, entries_at, load_at, mark_after, mark_below, unresolved_at};
 ghost use Rattle.mdcc_struct.specs.Maps.{txs_of, value_of};
 ghost use Rattle.mdcc_facts.specs.Adding.{MayBeAdded, add_result, is_store_memory};
+ghost use Rattle.mdcc_facts.specs.Past.{count_past};
 
 use mdcc_base::{Ballot, HeapList, Key, Memory, TxId};
 use mdcc_messages::Fact;
@@ -44,7 +45,8 @@ pub trait FactStore {
     fn promised(&self, key: &Key, version: u64, ballot: Ballot) -> Option<u64>
         ensures { (facts : List AFact) → stands self.now facts → result ≡ promised_through facts key.now version ballot };
 
-    /// The mark of a transaction in an instance at the greatest ballot at which it was voted.
+    /// The mark of a transaction in an instance at the greatest ballot at which it was voted, unless
+    /// it is forgotten.
     fn vote_of(&self, key: &Key, version: u64, tx: TxId) -> Option<(Ballot, Mark)>
         ensures { (facts : List AFact) → stands self.now facts → result ≡ vote_of facts key.now version tx };
 
@@ -53,7 +55,7 @@ pub trait FactStore {
     fn voted_below(&self, key: &Key, version: u64, below: Ballot) -> Ballot
         ensures { (facts : List AFact) → stands self.now facts → result ≡ last_ballot facts key.now version below };
 
-    /// All marks that were voted in an instance at a ballot.
+    /// The marks that were voted in an instance at a ballot and are not forgotten.
     fn votes(
         &self,
         alloc: Global,
@@ -61,23 +63,28 @@ pub trait FactStore {
         version: u64,
         ballot: Ballot,
     ) -> Result<Options, Memory>
-        ensures { (facts : List AFact) → stands self.now facts → IfOk result (λ votes. votes ≡ votes_of facts key.now version ballot) };
+        ensures { (facts : List AFact) → stands self.now facts → IfOk result (λ votes. votes ≡ shown_of facts key.now version ballot) };
 
-    /// How many transactions of a structure were voted in an instance at a ballot.
-    fn count_voted(&self, key: &Key, version: u64, ballot: Ballot, options: &Options) -> usize
-        ensures { (facts : List AFact) → stands self.now facts → result ≡ count_voted facts key.now version ballot options.now };
+    /// How many transactions of a structure are finished, or were voted in an instance at a ballot.
+    fn count_past(&self, key: &Key, version: u64, ballot: Ballot, options: &Options) -> usize
+        ensures { (facts : List AFact) → stands self.now facts → result ≡ count_past facts key.now version ballot options.now };
 
-    /// Whether an outcome of the transaction was heard.
-    fn is_heard(&self, tx: TxId) -> bool
-        ensures { (facts : List AFact) → stands self.now facts → result ≡ is_heard facts tx };
+    /// Whether an outcome of the transaction was heard, or all centres have heard one.
+    fn is_settled(&self, tx: TxId) -> bool
+        ensures { (facts : List AFact) → stands self.now facts → result ≡ is_settled facts tx };
 
-    /// Whether the outcome that was heard of a transaction is a commit.
+    /// Whether all centres have heard how the transaction ended, this one among them.
+    fn finished(&self, tx: TxId) -> bool
+        ensures heard { (facts : List AFact) → stands self.now facts → IsTrue result → is_heard facts tx ≡ true }
+        ensures value { (facts : List AFact) → stands self.now facts → result ≡ is_finished facts tx };
+
+    /// Whether the outcome that is kept of a transaction is a commit.
     fn ended(&self, tx: TxId) -> Option<bool>
         ensures { (facts : List AFact) → stands self.now facts → result ≡ ended_of facts tx };
 
-    /// The outcome that was heard of a transaction.
+    /// The outcome that was heard of a transaction, unless it is idle.
     fn heard(&self, tx: TxId) -> Option<Outcome>
-        ensures { (facts : List AFact) → stands self.now facts → result ≡ heard_of facts tx };
+        ensures { (facts : List AFact) → stands self.now facts → result ≡ outcome_kept facts tx };
 
     /// The version that is held.
     fn current(&self, key: &Key) -> u64
@@ -127,13 +134,12 @@ pub trait FactStore {
     ) -> Option<(Ballot, TxId, Mark)>
         ensures { (facts : List AFact) → stands self.now facts → result ≡ mark_after facts key.now version below last };
 
-    /// The transaction at a place, from 0, of those of which a vote holds a choice and whose
-    /// outcome was not heard, ascending, with its write set.
+    /// The transaction at a place, from 0, of those of which a vote holds a choice and that are not
+    /// settled, ascending, with its write set.
     fn unresolved(&self, place: usize) -> Option<(TxId, WriteSet)>
         ensures { (facts : List AFact) → stands self.now facts → result ≡ unresolved_at facts place };
 
-    /// The write set of a transaction of which a vote holds a choice and whose outcome was not
-    /// heard.
+    /// The write set of a transaction of which a vote holds a choice and that is not settled.
     fn write_set(&self, tx: TxId) -> Option<WriteSet>
         ensures { (facts : List AFact) → stands self.now facts → result ≡ value_of (unresolved_of facts) tx };
 

@@ -1,7 +1,7 @@
 -- Just where an acceptor gives its vote to accept a choice.
-use Rattle.std.proofs.Common.{Bool, List, None, Option, Some, arith, cond, false, refl, sym, true, ℕ, ◌<◌, ◌≡◌}
+use Rattle.std.proofs.Common.{Bool, List, None, Option, Some, arith, cond, false, refl, sym, true, ℕ, ◌<◌, ◌≡◌, subst, inl, inr, ◌&&◌}
 use Rattle.std.specs.Prelude.{nat_lt}
-use Rattle.std.proofs.lemmas.Bool.{lt-ltb, ltb-false, ltb-true}
+use Rattle.std.proofs.lemmas.Bool.{lt-ltb, ltb-false, ltb-true, and_left, cases_Bool}
 use Rattle.mdcc_base.specs.Ballot.{is_fast}
 use Rattle.mdcc_base.specs.declared.identifiers.Ballot.{Ballot}
 use Rattle.mdcc_option.specs.declared.choices.Cause.{Cause}
@@ -10,8 +10,8 @@ use Rattle.mdcc_option.specs.declared.choices.Mark.{Mark}
 use Rattle.mdcc_option.specs.declared.choices.Outcome.{Outcome}
 use Rattle.mdcc_option.specs.declared.cluster.Cluster.{Cluster}
 use Rattle.mdcc_messages.specs.declared.facts.Fact.{Fact}
-use Rattle.mdcc_protocol.specs.Acceptor.{answer_after, answer_to_new, fit_of, vote_by_fit, vote_to_accept, vote_to_reject}
-use Rattle.mdcc_protocol.specs.Facts.{current_of, entries_of, heard_of, promise_of, vote_of}
+use Rattle.mdcc_protocol.specs.Acceptor.{answer_to_new, fit_of, vote_by_fit, vote_to_accept, vote_to_reject, answer_by_vote, answer_after}
+use Rattle.mdcc_protocol.specs.Facts.{current_of, entries_of, heard_of, promise_of, vote_of, is_finished, is_idle, is_past, outcome_kept}
 use Rattle.mdcc_protocol.specs.Structures.{accept_room, reject_room}
 use Rattle.mdcc_protocol.specs.declared.acceptor.ProposeAnswer.{ProposeAnswer}
 use Rattle.mdcc_protocol.specs.declared.fit.Fit.{Fit}
@@ -31,7 +31,10 @@ module _ (cluster : Cluster) (facts : List Fact) (choice : Choice) where
       let behind = below-not (current_of facts choice.key) choice.version h.held in
       let older = below-not choice.version (current_of facts choice.key) (sym h.held) in
       let room = lt-ltb (entries_of facts choice.key choice.version).0 (accept_room choice.update) h.room in
-      rw (h.unheard, h.unvoted, behind, h.unpromised, older, h.fits, room) refl
+      let kept : outcome_kept facts choice.tx ≡ None = elim (cases_Bool (is_idle facts choice.tx)) [ inl e ↦ rw e refl | inr e ↦ rw e h.unheard ] in
+      subst (λ o. answer_after cluster facts choice o ≡ ProposeAnswer.Vote (Mark.Accept choice)) (sym kept)
+      (subst (λ f. cond f ProposeAnswer.Finished (answer_by_vote cluster facts choice (vote_of facts choice.key choice.version choice.tx)) ≡ ProposeAnswer.Vote (Mark.Accept choice)) (sym h.unfinished)
+      (subst (λ v. answer_by_vote cluster facts choice v ≡ ProposeAnswer.Vote (Mark.Accept choice)) (sym h.unvoted) (rw (behind, h.unpromised, older, h.fits, room) refl)))
 
   abbrev accepting : ProposeAnswer
   accepting = ProposeAnswer.Vote (Mark.Accept choice)
@@ -81,9 +84,18 @@ module _ (cluster : Cluster) (facts : List Fact) (choice : Choice) where
           record { held = same (current_of facts choice.key) choice.version ex ez; unpromised = ey; fits = k.0; room = k.1 }
 
   pub may : IsAccepted cluster facts choice → MayAccept cluster facts choice
-  may h = by (heard_of facts choice.tx) (vote_of facts choice.key choice.version choice.tx) refl refl h
+  may h = by_kept (outcome_kept facts choice.tx) refl h
     where
-      by : (o : Option Outcome) (v : Option (Ballot × Mark)) → heard_of facts choice.tx ≡ o → vote_of facts choice.key choice.version choice.tx ≡ v → answer_after cluster facts choice o v ≡ accepting → MayAccept cluster facts choice
-      by (Some outcome) v eo ev g = absurd (cc)
-      by None (Some vote) eo ev g = absurd (cc)
-      by None None eo ev g = let k = new g in record { held = k.held; unpromised = k.unpromised; unheard = eo; unvoted = ev; fits = k.fits; room = k.room }
+      by_vote : (f : Bool) (v : Option (Ballot × Mark)) → outcome_kept facts choice.tx ≡ None → is_finished facts choice.tx ≡ f → vote_of facts choice.key choice.version choice.tx ≡ v
+          → cond f ProposeAnswer.Finished (answer_by_vote cluster facts choice v) ≡ accepting → MayAccept cluster facts choice
+      by_vote true v eo ef ev g = absurd (cc)
+      by_vote false (Some vote) eo ef ev g = absurd (cc)
+      by_vote false None eo ef ev g =
+          let k = new g in
+          let busy : is_idle facts choice.tx ≡ false = and_left (is_finished facts choice.tx && is_past facts (heard_of facts choice.tx)) _ (and_left (is_finished facts choice.tx) _ ef) in
+          let unheard : heard_of facts choice.tx ≡ None = subst (λ z. cond z None (heard_of facts choice.tx) ≡ None) busy eo in
+          record { held = k.held; unpromised = k.unpromised; unfinished = ef; unheard = unheard; unvoted = ev; fits = k.fits; room = k.room }
+
+      by_kept : (o : Option Outcome) → outcome_kept facts choice.tx ≡ o → answer_after cluster facts choice o ≡ accepting → MayAccept cluster facts choice
+      by_kept (Some outcome) eo g = absurd (cc)
+      by_kept None eo g = by_vote (is_finished facts choice.tx) (vote_of facts choice.key choice.version choice.tx) eo refl refl g

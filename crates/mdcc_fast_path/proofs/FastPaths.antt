@@ -2,8 +2,8 @@
 use Rattle.std.proofs.Common.{◌==◌, Bool, List, None, Option, ◌&&◌, Some, [], ap, arith, false, inl, inr, map, refl, subst, sym, true, ℕ, ◌++◌, ◌-◌, ◌<◌, ◌∙◌, ◌∷◌, ◌≡◌, ◌≤◌, ◌^◌}
 use Rattle.std.specs.List.{AllByRecursion}
 use Rattle.std.specs.List.Sorted.{IsPermutation}
-use Rattle.std.specs.Prelude.{length, option_map, slice_get, suc, zero}
-use Rattle.std.proofs.lemmas.Bool.{cases_Bool}
+use Rattle.std.specs.Prelude.{length, option_map, slice_get, suc, zero, is_some}
+use Rattle.std.proofs.lemmas.Bool.{cases_Bool, true≢false}
 use Rattle.std.proofs.lemmas.List.Sorted.{IsPermutation-sym}
 use Rattle.mdcc_base.specs.Key.{key_eq, key_lt}
 use Rattle.mdcc_base.specs.declared.outside.Image.{Image}
@@ -21,7 +21,7 @@ use Rattle.mdcc_messages.specs.Mailbox.{Sent}
 use Rattle.mdcc_messages.specs.declared.facts.Fact.{Fact}
 use Rattle.mdcc_messages.specs.declared.messages.Envelope.{Envelope}
 use Rattle.mdcc_protocol.specs.Belongs.{choice_belongs, is_centre}
-use Rattle.mdcc_protocol.specs.Facts.{heard_of}
+use Rattle.mdcc_protocol.specs.Facts.{heard_of, is_finished}
 use Rattle.mdcc_protocol.specs.IsCluster.{IsCluster}
 use Rattle.mdcc_protocol.specs.News.{is_crowding}
 use Rattle.mdcc_protocol.specs.Volatile.{Undecided, Volatile, opened_of}
@@ -61,6 +61,8 @@ use Rattle.mdcc_fast_path.proofs.Chosen.{Gives, outcome-commits}
 use Rattle.mdcc_fast_path.proofs.Lists.{at, from, of-pairs, recursive}
 use Rattle.mdcc_fast_path.proofs.OpenWorlds.{IsWell, in-back, open-well}
 use Rattle.mdcc_fast_path.proofs.States.{next-state}
+use Rattle.mdcc_trace.proofs.Finished.{centre-in, finished-all}
+use Rattle.mdcc_agreement.proofs.VersionsLow.{few-begun}
 
 -- ---- an open transaction
 
@@ -239,7 +241,7 @@ module _ (cluster : Cluster) (is : IsCluster cluster) (events : List Event)
           record {
             of_cluster = is;
             allowed = subst (λ (z : World). IsAllowed cluster z.ledger) reached (allowed cluster is more);
-            short = subst (λ (z : World). length z.ledger ≤ 2 ^ 64 - 1) reached (ledger-short cluster is more);
+            few = few-begun v.ledger (subst (λ (z : World). length z.ledger ≤ 2 ^ 64 - 1) reached (ledger-short cluster is more));
           }
 
       committed : outcome_of cluster.quorums v.ledger t.tx ≡ Some (Outcome.Commit t.choices)
@@ -269,6 +271,16 @@ module _ (cluster : Cluster) (is : IsCluster cluster) (events : List Event)
         let still = Each-at (IsOpened first.world.ledger) (centre_at first.world a).volatile.manager.opened t up-then.keeps.manager.opened among in
         sym (after.crowding a commit) ∙ uncrowded-there first.world there.0 there.1 after.messages still.choices
 
+    -- what is finished at a centre was heard there
+    unfinished : is_finished (facts_of w.ledger a) t.tx ≡ false
+    unfinished =
+        elim (cases_Bool (is_finished (facts_of w.ledger a) t.tx)) [
+          | inl e ↦
+              absurd (true≢false (sym (subst (λ o. is_some o ≡ true) (unheard cluster is events a t (record { centre = up.centre; opened = untaken.uncounted.opened }))
+              (finished-all w.cluster w.ledger a a t.tx up.legal (centre-in w.cluster a up.centre) e))))
+          | inr e ↦ e
+        ]
+
     ready : IsReady w a t members
     ready = record {
       quorums = up.sizes;
@@ -278,6 +290,7 @@ module _ (cluster : Cluster) (is : IsCluster cluster) (events : List Event)
         unstopped = untaken.unstopped;
         uncounted = untaken.uncounted;
         unheard = unheard cluster is events a t (record { centre = up.centre; opened = untaken.uncounted.opened });
+        unfinished = unfinished;
         uncrowded = uncrowded;
       };
       choices = choices;

@@ -19,7 +19,7 @@ use Rattle.mdcc_messages.specs.declared.facts.Fact.{Fact}
 use Rattle.mdcc_messages.specs.declared.messages.Envelope.{Envelope}
 use Rattle.mdcc_messages.specs.declared.messages.Message.{Message}
 use Rattle.mdcc_protocol.specs.Acceptor.{on_accept, on_prepare, on_propose}
-use Rattle.mdcc_protocol.specs.Facts.{epoch_of, heard_of, is_heard, vote_of}
+use Rattle.mdcc_protocol.specs.Facts.{epoch_of, vote_of, is_finished, is_settled, outcome_kept}
 use Rattle.mdcc_protocol.specs.Leader.{claim_of_choice, lead, on_promise}
 use Rattle.mdcc_protocol.specs.Learner.{is_learned}
 use Rattle.mdcc_protocol.specs.Manager
@@ -38,7 +38,7 @@ use Rattle.mdcc_protocol.specs.declared.manager.ManagerAct.{ManagerAct}
 use Rattle.mdcc_protocol.specs.declared.recover.RecoverAct.{RecoverAct}
 use Rattle.mdcc_protocol.specs.declared.visible.Give.{Give}
 use Rattle.mdcc_protocol.specs.declared.votes.Vote.{Vote}
-use Rattle.mdcc_rules.specs.AcceptorRules.{accepted_step, ask_step_by, prepared_step, proposed_step}
+use Rattle.mdcc_rules.specs.AcceptorRules.{accepted_step, ask_step_by, prepared_step, proposed_step, ask_step_after}
 use Rattle.mdcc_rules.specs.LeaderRules.{lead_step_after, led_by_answer, led_of, promised_by_answer, step_of_led}
 use Rattle.mdcc_rules.specs.ManagerRules.{acted_step, escalate_step, opened_step, undecided_step, voted_step, watched_step}
 use Rattle.mdcc_rules.specs.Node.{checked, is_without_room, message_step, with_room}
@@ -50,6 +50,7 @@ use Rattle.mdcc_trace_states.specs.Words.{Each, In}
 use Rattle.mdcc_trace_states.proofs.Lists.{Each-at, Each-from, Each-like, Each-map, In-filter}
 use Rattle.mdcc_trace_limits.proofs.RoundMessages.{led-of-plain}
 use Rattle.mdcc_rules.specs.Here.{here}
+use Rattle.mdcc_rules.specs.Messages.{to_one}
 
 -- ---- open before
 
@@ -125,6 +126,7 @@ heard volatile tx outcome sends = record {
 
 proposed : (me : ℕ) (volatile : Volatile) (s : ℕ) (choice : Choice) (answer : ProposeAnswer) → IsKeeping volatile (proposed_step me volatile s choice answer)
 proposed me volatile s choice (ProposeAnswer.Known outcome) = sent volatile volatile _ (same volatile)
+proposed me volatile s choice ProposeAnswer.Finished = sent volatile volatile _ (same volatile)
 proposed me volatile s choice (ProposeAnswer.Again ballot mark) = sent volatile volatile _ (same volatile)
 proposed me volatile s choice (ProposeAnswer.Escalate cause) = sent volatile volatile _ (same volatile)
 proposed me volatile s choice (ProposeAnswer.Vote mark) = added volatile _ _ (λ tx o e. cc)
@@ -140,13 +142,17 @@ accepted me facts volatile l k v b os (AcceptAnswer.Behind current) = sent volat
 accepted me facts volatile l k v b os AcceptAnswer.Older = sent volatile volatile _ (same volatile)
 accepted me facts volatile l k v b os AcceptAnswer.Vote = added volatile _ _ (λ tx o e. cc)
 
-asked : (me : ℕ) (volatile : Volatile) (s : ℕ) (t : TxId) (k : Key) (v : ℕ) (o : Option Outcome) (x : Option (Ballot × Mark)) → IsKeeping volatile (ask_step_by me volatile s t k v o x)
-asked me volatile s t k v (Some o) x = sent volatile volatile _ (same volatile)
-asked me volatile s t k v None (Some x) = sent volatile volatile _ (same volatile)
-asked me volatile s t k v None None = done volatile volatile (same volatile)
+asked : (me : ℕ) (facts : List Fact) (volatile : Volatile) (s : ℕ) (t : TxId) (k : Key) (v : ℕ) (o : Option Outcome) → IsKeeping volatile (ask_step_by me facts volatile s t k v o)
+asked me facts volatile s t k v (Some o) = sent volatile volatile _ (same volatile)
+asked me facts volatile s t k v None = pick (is_finished facts t) (vote_of facts k v t)
+  where
+    pick : (b : Bool) (x : Option (Ballot × Mark)) → IsKeeping volatile (cond b (sending volatile (to_one me s (Message.Finished t))) (ask_step_after me volatile s t k v x))
+    pick true x = sent volatile volatile _ (same volatile)
+    pick false (Some x) = sent volatile volatile _ (same volatile)
+    pick false None = done volatile volatile (same volatile)
 
 told : (facts : List Fact) (volatile : Volatile) (t : TxId) (o : Outcome) → IsKeeping volatile (outcome_step_by volatile t (on_outcome facts t o))
-told facts volatile t o = elim (cases_Bool (is_heard facts t)) [ inl e ↦ rw e (done volatile volatile (same volatile)) | inr e ↦ rw e (heard volatile t o []) ]
+told facts volatile t o = elim (cases_Bool (is_settled facts t)) [ inl e ↦ rw e (done volatile volatile (same volatile)) | inr e ↦ rw e (heard volatile t o []) ]
 
 given : (facts : List Fact) (volatile : Volatile) (give : Give) → IsKeeping volatile (sync_give_step_by volatile (on_sync_give facts give))
 given facts volatile give = pick (is_news facts give.key give.version give.adds)
@@ -182,7 +188,7 @@ undecided cluster me facts volatile vote =
 
 voted : (cluster : Cluster) (me : ℕ) (facts : List Fact) (volatile : Volatile) (vote : Vote) → IsKeeping volatile (voted_step (here cluster me facts) volatile vote)
 voted cluster me facts volatile vote =
-    elim (cases_Bool (is_heard facts vote.tx)) [
+    elim (cases_Bool (is_settled facts vote.tx)) [
       | inl e ↦ rw e (done volatile volatile (same volatile))
       | inr e ↦ rw e (elim (cases_Bool (is_open volatile.manager vote.tx)) [
         | inl f ↦ rw f (opened _)
@@ -242,7 +248,11 @@ apart-step volatile (Ok part) h = record {
 
 claimed : (cluster : Cluster) (me : ℕ) (facts : List Fact) (volatile : Volatile) (s : ℕ) (choice : Choice) (o : Option Outcome) → IsKeepingResult volatile (lead_step_after (here cluster me facts) volatile s choice o)
 claimed cluster me facts volatile s choice (Some o) = sent volatile volatile _ (same volatile)
-claimed cluster me facts volatile s choice None = apart-step volatile (led_of (here cluster me facts) volatile (claim_of_choice choice)) (led cluster me facts volatile (claim_of_choice choice))
+claimed cluster me facts volatile s choice None =
+    elim (cases_Bool (is_finished facts choice.tx)) [
+      | inl e ↦ rw e (sent volatile volatile _ (same volatile))
+      | inr e ↦ rw e (apart-step volatile (led_of (here cluster me facts) volatile (claim_of_choice choice)) (led cluster me facts volatile (claim_of_choice choice)))
+    ]
 
 -- ---- messages
 
@@ -250,16 +260,18 @@ message : (cluster : Cluster) (me : ℕ) (facts : List Fact) (volatile : Volatil
 message cluster me facts volatile s (Message.Propose choice) = proposed me volatile s choice (on_propose cluster facts choice)
 message cluster me facts volatile s (Message.Voted k v b t m) = voted cluster me facts volatile _
 message cluster me facts volatile s (Message.Escalate k v t cause) = escalated cluster me facts volatile s k t cause
-message cluster me facts volatile s (Message.Lead choice) = claimed cluster me facts volatile s choice (heard_of facts choice.tx)
+message cluster me facts volatile s (Message.Lead choice) = claimed cluster me facts volatile s choice (outcome_kept facts choice.tx)
 message cluster me facts volatile s (Message.Prepare k v w b) = prepared me facts volatile s k v b (on_prepare facts k v w b)
 message cluster me facts volatile s (Message.Promise k v w b r os) =
     apart-step volatile _ (promised cluster.quorums me volatile k (on_promise cluster facts volatile.leader s (record { key = k; version = v; through = w; ballot = b; reported = r; votes = os })))
 message cluster me facts volatile s (Message.Accept k v b os) = accepted me facts volatile s k v b os (on_accept facts k v b os)
 message cluster me facts volatile s (Message.Refused k v b p) = done volatile _ (same volatile)
 message cluster me facts volatile s (Message.Outcome t o) = told facts volatile t o
-message cluster me facts volatile s (Message.Ask t k v) = asked me volatile s t k v (heard_of facts t) (vote_of facts k v t)
+message cluster me facts volatile s (Message.Ask t k v) = asked me facts volatile s t k v (outcome_kept facts t)
 message cluster me facts volatile s (Message.SyncAsk k) = sent volatile volatile _ (same volatile)
 message cluster me facts volatile s (Message.SyncGive k v item adds) = given facts volatile (record { key = k; version = v; item = item; adds = adds })
+message cluster me facts volatile s (Message.Mark centre era seq) = done volatile volatile (same volatile)
+message cluster me facts volatile s (Message.Finished tx) = done volatile _ (old-filter (λ (t : Undecided). not (tx_eq t.tx tx)) volatile.manager.opened)
 message cluster me facts volatile s (Message.ClientRead n k) = done volatile volatile (same volatile)
 message cluster me facts volatile s (Message.ClientBegin n ps) = done volatile volatile (same volatile)
 message cluster me facts volatile s (Message.ClientAnswer n x) = done volatile volatile (same volatile)

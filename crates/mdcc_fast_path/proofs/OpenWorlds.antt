@@ -147,6 +147,7 @@ quiet-fact t (Fact.Booted n) h = refl
 quiet-fact t (Fact.Promised k low high b) h = refl
 quiet-fact t (Fact.Voted k v b os off) h = refl
 quiet-fact t (Fact.Adopted k v item adds) h = refl
+quiet-fact t (Fact.Floor c e n) h = refl
 quiet-fact t (Fact.Heard tx outcome) h =
     elim (cases_Bool (tx_eq tx t)) [
       | inl e ↦ absurd (let same : t ≡ tx = sym (tx-true tx t e) in let bad : tx_eq t t ≡ false = subst (λ z. tx_eq t z ≡ false) (sym same) (h tx outcome refl) in let good = tx-refl t in cc)
@@ -243,6 +244,9 @@ module _ (w : World) (a : ℕ) (up : IsUp IsSound w.cluster w.ledger a (centre_a
       let k = tick-keeps w.cluster a (facts_of w.ledger a) (centre_at w a).volatile in
       keeping-result (step_at w a Input.Tick) (record { opened = k.opened; closes = λ tx o e. absurd (cc); plain = k.plain })
 
+  sweep-well : IsWellResult w a (step_at w a Input.Sweep)
+  sweep-well = keeping-result (step_at w a Input.Sweep) (record { opened = old-same (centre_at w a).volatile.manager.opened; closes = λ tx o e. absurd (cc); plain = λ es b. refl })
+
   read-well : (key : Key) → IsWellResult w a (step_at w a (Input.Read key))
   read-well key = keeping-result (step_at w a (Input.Read key)) (record { opened = old-same (centre_at w a).volatile.manager.opened; closes = λ tx o e. absurd (cc); plain = λ es b. refl })
 
@@ -303,6 +307,7 @@ well-walk cluster = record {
         → IsWellWorld (input_happened w a (step_at w a input)).world
     by_input w a (Input.Message env) h up fair p = input-well w a (step_at w a (Input.Message env)) (again w h) up.centre (message-well w a up p env) p
     by_input w a Input.Tick h up fair p = input-well w a (step_at w a Input.Tick) (again w h) up.centre (tick-well w a up p) p
+    by_input w a Input.Sweep h up fair p = input-well w a (step_at w a Input.Sweep) (again w h) up.centre (sweep-well w a up p) p
     by_input w a (Input.Read key) h up fair p = input-well w a (step_at w a (Input.Read key)) (again w h) up.centre (read-well w a up p key) p
     by_input w a (Input.Begin parts) h up fair p =
         input-well w a (step_at w a (Input.Begin parts)) (again w h) up.centre

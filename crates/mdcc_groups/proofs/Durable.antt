@@ -80,6 +80,7 @@ heard-here es a (Fact.Booted n) = tt
 heard-here es a (Fact.Promised k lo hi m) = tt
 heard-here es a (Fact.Voted k v m os off) = tt
 heard-here es a (Fact.Adopted k v it ds) = tt
+heard-here es a (Fact.Floor origin era upto) = tt
 
 by-fact : (also : List Entry → Type 0) (cluster : Cluster) (es : List Entry) (a : ℕ) (volatile : Volatile) (step : NodeStep) (o : Option Fact) → IsUp also cluster es a volatile
     → IsGoodBy cluster also es a step o → NoFacts step.entries

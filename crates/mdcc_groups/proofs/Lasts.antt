@@ -17,6 +17,7 @@ use Rattle.mdcc_groups.specs.Groups.{IsGroup, IsSoundLedger}
 pub fair-more : (cluster : Cluster) (new es : List Entry) (input : Input) → IsFair cluster es input → IsFair cluster (new ++ es) input
 fair-more cluster new es (Input.Message envelope) h = true-more cluster new es envelope h
 fair-more cluster new es Input.Tick h = h
+fair-more cluster new es Input.Sweep h = h
 fair-more cluster new es (Input.Begin parts) h = h
 fair-more cluster new es (Input.Read key) h = h
 

@@ -54,6 +54,7 @@ module _ (also : List Entry → Type 0) (cluster : Cluster) where
   fair-given nodes (Input.Message envelope) h g = Each-at (TrueWhenSent cluster nodes.ledger) nodes.sent envelope h.sent g
   fair-given nodes (Input.Begin parts) h g = g
   fair-given nodes Input.Tick h g = tt
+  fair-given nodes Input.Sweep h g = tt
   fair-given nodes (Input.Read key) h g = tt
 
   took : (nodes : Nodes) (a : ℕ) (input : Input) (o : Option Member) → nodes.member a ≡ o → AreSound also cluster nodes → MayTake cluster nodes input → AreSound also cluster (taken nodes a input o)

@@ -88,6 +88,7 @@ module _ (cluster : Cluster) (es : List Entry) (h : IsLedger cluster es) where
   line-told (Line.Settle listed) o = tt
   line-told (Line.Settled deliveries next) o = tt
   line-told (Line.Tick a next) o = tt
+  line-told (Line.Sweep a next) o = tt
   line-told (Line.Crash a) o = tt
   line-told (Line.Stop a call image) o = tt
   line-told (Line.Restart a epoch) o = tt
@@ -118,6 +119,7 @@ line-now cluster now h (Line.Deliver number next) o = tt
 line-now cluster now h (Line.Settle listed) o = tt
 line-now cluster now h (Line.Settled deliveries next) o = tt
 line-now cluster now h (Line.Tick a next) o = tt
+line-now cluster now h (Line.Sweep a next) o = tt
 line-now cluster now h (Line.Crash a) o = tt
 line-now cluster now h (Line.Stop a call image) o = tt
 line-now cluster now h (Line.Restart a epoch) o = tt

@@ -1,8 +1,8 @@
 -- In an allowed ledger each outcome and each read is told of the committed transactions.
-use Rattle.std.proofs.Common.{Contains, List, None, Option, Some, [], ap, arith, inl, inr, length, refl, subst, sym, true, ℕ, ◌++◌, ◌+◌, ◌∙◌, ◌∷◌, ◌≡◌, ◌≤◌}
+use Rattle.std.proofs.Common.{Contains, List, None, Option, Some, [], ap, arith, inl, inr, refl, subst, sym, true, ℕ, ◌++◌, ◌+◌, ◌∙◌, ◌∷◌, ◌≡◌}
 use Rattle.std.proofs.lemmas.Bool.{cases_Bool}
 use Rattle.std.specs.List.{enumerate_from}
-use Rattle.std.specs.Prelude.{fold, map, option_map, ℤ, ◌+ℤ◌, ◌-◌, ◌^◌}
+use Rattle.std.specs.Prelude.{fold, map, option_map, ℤ, ◌+ℤ◌}
 use Rattle.mdcc_base.specs.TxId.{tx_eq}
 use Rattle.mdcc_base.specs.declared.identifiers.TxId.{TxId}
 use Rattle.mdcc_base.specs.declared.key.Key.{Key}
@@ -38,6 +38,7 @@ use Rattle.mdcc_history.proofs.CommitsRun.{commits_each, commits_only}
 use Rattle.mdcc_history.proofs.Sorted.{After, Ascending, Decides-tx_lt, ascending_union}
 use Rattle.mdcc_right_reads.specs.RightReads.{IsAdded, IsReadOf, IsWritten, are_ascending}
 use Rattle.mdcc_headline.specs.Truth.{IsReportedAbort, IsReportedCommit, IsReportedRead, IsWhole}
+use Rattle.mdcc_agreement.proofs.VersionsLow.{begun-after}
 
 -- ---- the ledger at an earlier time
 
@@ -45,18 +46,11 @@ allowed-before : (cluster : Cluster) (later es : List Entry) → IsAllowed clust
 allowed-before cluster [] es h = h
 allowed-before cluster (e ∷ later) es h = allowed-before cluster later es h.0
 
-shorter : (later es : List Entry) → length es ≤ length (later ++ es)
-shorter [] es = omega arith
-shorter (e ∷ later) es = omega (arith, shorter later es)
-
-low-enough : (a b n : ℕ) → a ≤ b → b ≤ n → a ≤ n
-low-enough a b n h k = omega arith
-
 pub ledger-before : (cluster : Cluster) (later es : List Entry) → IsLedger cluster (later ++ es) → IsLedger cluster es
 ledger-before cluster later es h = record {
   of_cluster = h.of_cluster;
   allowed = allowed-before cluster later es h.allowed;
-  short = low-enough (length es) (length (later ++ es)) (2 ^ 64 - 1) (shorter later es) h.short;
+  few = omega (arith, h.few, begun-after later es);
 }
 
 -- ---- begun transactions

@@ -26,10 +26,11 @@ use Rattle.mdcc_headline.proofs.Commits.{commits-listed, none-first}
 use Rattle.mdcc_headline.proofs.Ends.{end-true}
 use Rattle.mdcc_headline.proofs.Lines.{lines-told, turn-true}
 use Rattle.mdcc_headline.proofs.Reported.{all-whole}
+use Rattle.mdcc_agreement.proofs.VersionsLow.{few-begun}
 
 -- the premise of all laws of ledgers
 run-ledger : (cluster : Cluster) (events : List Event) → IsCluster cluster → IsLedger cluster (run_of (first_world cluster) events).world.ledger
-run-ledger cluster events is = record { of_cluster = is; allowed = trace.allowed cluster is events; short = limits.ledger-short cluster is events }
+run-ledger cluster events is = record { of_cluster = is; allowed = trace.allowed cluster is events; few = few-begun (run_of (first_world cluster) events).world.ledger (limits.ledger-short cluster is events) }
 
 -- the chosen lines of a run are its outcomes
 run-order : (cluster : Cluster) (events : List Event) → (run_of (first_world cluster) events).world.cluster ≡ cluster →

@@ -16,13 +16,13 @@ use Rattle.mdcc_struct.specs.declared.options.Options.{Options}
 use Rattle.mdcc_ledger.specs.Ledger as ledger
 use Rattle.mdcc_messages.specs.declared.facts.Fact.{Fact}
 use Rattle.mdcc_struct.proofs.Reports.{cases_Option}
-use Rattle.mdcc_agreement.proofs.AcceptedAgree.{IsAborted-tail}
+use Rattle.mdcc_agreement.proofs.HeardHere.{IsAborted-tail}
 use Rattle.mdcc_agreement.proofs.OneBase.{one_outcome}
 use Rattle.mdcc_agreement.proofs.BegunOnce.{begun_once, WasBegun-more}
 use Rattle.mdcc_agreement.proofs.ReportsCounted.{some_counted, count-le}
 use Rattle.mdcc_agreement.proofs.OutcomeToReduced.{decided}
 use Rattle.mdcc_agreement.proofs.Reduction.{IsSetup-of, reduced, reduced_entry}
-use Rattle.mdcc_agreement.proofs.ChoicesGive.{last_version}
+use Rattle.mdcc_agreement.proofs.VersionsLow.{begun-after}
 use Rattle.mdcc_agreement.proofs.LedgersGrow.{IsTail-same, votes_cases}
 use Rattle.mdcc_agreement.proofs.ChosenFound.{quorum_some}
 use Rattle.mdcc_agreement.proofs.SumsWithinRooms.{any_choice}
@@ -56,6 +56,7 @@ voted_named : (e : ledger.Entry) (a : ℕ) (i : Place) (k : Ballot) (marks : Lis
 voted_named (ledger.Begun b u cs) a i k marks t x is h = absurd (cc)
 voted_named (ledger.Valued b key v l os) a i k marks t x is h = absurd (cc)
 voted_named (ledger.Added b (Fact.Booted epoch)) a i k marks t x is h = absurd (cc)
+voted_named (ledger.Added b (Fact.Floor centre epoch seq)) a i k marks t x is h = absurd (cc)
 voted_named (ledger.Added b (Fact.Promised key low high l)) a i k marks t x is h = absurd (cc)
 voted_named (ledger.Added b (Fact.Heard u o)) a i k marks t x is h = absurd (cc)
 voted_named (ledger.Added b (Fact.Adopted key v item adds)) a i k marks t x is h = absurd (cc)
@@ -127,6 +128,7 @@ voted_apart : (e : ledger.Entry) → ApartTx (ledger.txs_voted e)
 voted_apart (ledger.Begun b u cs) = tt
 voted_apart (ledger.Valued b key v l os) = tt
 voted_apart (ledger.Added b (Fact.Booted epoch)) = tt
+voted_apart (ledger.Added b (Fact.Floor centre epoch seq)) = tt
 voted_apart (ledger.Added b (Fact.Promised key low high l)) = tt
 voted_apart (ledger.Added b (Fact.Heard u o)) = tt
 voted_apart (ledger.Added b (Fact.Adopted key v item adds)) = tt
@@ -142,8 +144,7 @@ ordered cluster [] h = refl
 ordered cluster (e ∷ es) h =
     let sizes : IsSetup (setup_of cluster) = IsSetup-of cluster h.of_cluster.quorums in
     let now : Allowed (setup_of cluster) (reduced (e ∷ es)) = allowed cluster (e ∷ es) h in
-    let short : length (e ∷ es) ≤ last_version = h.short in
-    let before : IsLedger cluster es = record { of_cluster = h.of_cluster; allowed = h.allowed.0; short = omega arith } in
+    let before : IsLedger cluster es = record { of_cluster = h.of_cluster; allowed = h.allowed.0; few = omega (arith, h.few, begun-after (e ∷ []) es) } in
     let new : (x : TxId × List Choice) → In x (news cluster e es) → IsCommitted (setup_of cluster) (reduced (e ∷ es)) x.0 x.1 × (IsCommitted (setup_of cluster) (reduced es) x.0 x.1 → ⊥) = λ x g.
     let is : IsNew cluster e es x = news_shows cluster e es x g in (
       decided cluster sizes (e ∷ es) now x.0 (Commit x.1) is.1,

@@ -34,7 +34,7 @@ use Rattle.mdcc_agreement.proofs.BegunOnce.{In-append}
 use Rattle.mdcc_agreement.proofs.OutcomeToReduced.{decided}
 use Rattle.mdcc_agreement.proofs.Reduction.{reduced}
 use Rattle.mdcc_agreement.proofs.ChoicesGive.{last_version, Update-is}
-use Rattle.mdcc_agreement.proofs.VersionsLow.{low_all, length-reduced}
+use Rattle.mdcc_agreement.proofs.VersionsLow.{begun, begun-after, begun-reduced, low_all}
 use Rattle.mdcc_agreement.proofs.BegunReduced.{part_clear, write_clear, not_repeated, none_repeated, In-parts}
 use Rattle.mdcc_agreement.proofs.OutcomeFromReduced.{begun_some, outcome_committed}
 use Rattle.mdcc_agreement.proofs.ReducedLedger.{WasBegun, IsCommitted, Allowed}
@@ -253,14 +253,13 @@ pub store_of : (cluster : Cluster) (es : List ledger.Entry) → IsLedger cluster
     (store : Store) × (copy.store_run cluster.schema copy.empty_store (ledger.committed_of cluster.quorums es) ≡ Some store) × Like cluster store (done cluster es)
 store_of cluster [] h = (copy.empty_store, refl, (λ key. (refl, refl, refl)))
 store_of cluster (e ∷ es) h =
-    let short : length (e ∷ es) ≤ last_version = h.short in
-    let before : IsLedger cluster es = record { of_cluster = h.of_cluster; allowed = h.allowed.0; short = omega arith } in
+    let before : IsLedger cluster es = record { of_cluster = h.of_cluster; allowed = h.allowed.0; few = omega (arith, h.few, begun-after (e ∷ []) es) } in
     let older : (store : Store) × (copy.store_run cluster.schema copy.empty_store (ledger.committed_of cluster.quorums es) ≡ Some store) × Like cluster store (done cluster es) = store_of cluster es before in
     let legal : Allowed (setup_of cluster) (reduced (e ∷ es)) = allowed cluster (e ∷ es) h in
     let order = run_order (setup_of cluster) (setup_fine cluster (e ∷ es) h) (reduced (e ∷ es)) legal (done cluster (e ∷ es)) (ordered cluster (e ∷ es) h) in
-    let few : length (reduced (e ∷ es)) ≤ last_version = omega (arith, length-reduced (e ∷ es)) in
+    let few : begun (reduced (e ∷ es)) ≤ last_version = omega (arith, h.few, begun-reduced (e ∷ es)) in
     let valid : (x : TxId × List Choice) → In x (done cluster (e ∷ es)) → KeysApart x.1 × ((c : Choice) → In c x.1 → IsValid cluster.schema c) = λ x g.
-    begun_valid cluster (length (reduced (e ∷ es))) few (e ∷ es) h.allowed (low_all (setup_of cluster) (reduced (e ∷ es)) legal).1 x.0 x.1 (order.2 x g).0 in
+    begun_valid cluster (begun (reduced (e ∷ es))) few (e ∷ es) h.allowed (low_all (setup_of cluster) (reduced (e ∷ es)) legal).1 x.0 x.1 (order.2 x g).0 in
     let more : (store : Store) × (copy.store_run cluster.schema older.0 (map (λ (x : TxId × List Choice). x.1) (news cluster e es)) ≡ Some store) × Like cluster store (done cluster (e ∷ es)) =
     store_more cluster (news cluster e es) (done cluster es) older.0 older.2 order.0 order.1 (own_of (setup_of cluster) (reduced (e ∷ es)) legal (done cluster (e ∷ es)) order.2)
     (keyed_of (setup_of cluster) (reduced (e ∷ es)) legal (done cluster (e ∷ es)) order.2) valid in (

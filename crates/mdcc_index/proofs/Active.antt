@@ -14,7 +14,8 @@ use Rattle.mdcc_struct.specs.Maps.{value_of}
 use Rattle.mdcc_struct.specs.Options.{accepts_in}
 use Rattle.mdcc_struct.specs.declared.options.Options.{Options}
 use Rattle.mdcc_messages.specs.declared.facts.Fact.{Fact}
-use Rattle.mdcc_protocol.specs.Facts.{live_from, live_mark}
+use Rattle.mdcc_protocol.specs.Facts.{live_mark}
+use Rattle.mdcc_protocol.specs.Plain.{plain_live_from}
 use Rattle.mdcc_protocol.specs.declared.fit.Load.{Load}
 use Rattle.mdcc_escrow.specs.Weights.{with_live}
 use Rattle.mdcc_fact_folds.specs.Chains.{Covers, is_delta_in, is_of_instance}
@@ -45,8 +46,9 @@ pick-none : {X : Type 0} (b : Bool) (x y : X) → x ≡ y → (if b then x else 
 pick-none true x y h = h
 pick-none false x y h = refl
 
-no-live : (key : Key) (version : ℕ) (fact : Fact) → is_active fact ≡ false → live_from key version fact ≡ []
+no-live : (key : Key) (version : ℕ) (fact : Fact) → is_active fact ≡ false → plain_live_from key version fact ≡ []
 no-live key version (Fact.Booted epoch) h = absurd (cc)
+no-live key version (Fact.Floor origin era upto) h = absurd (cc)
 no-live key version (Fact.Promised k low high b) h = absurd (cc)
 no-live key version (Fact.Voted k v b options offered) h =
     pick-none _ (filter_map live_mark options) [] (no-mark-live options (parts-false (ballot_eq b fast_ballot) (nat_lt 0 (length (accepts_in options))) h).1)
@@ -55,6 +57,7 @@ no-live key version (Fact.Adopted k v item adds) h = absurd (cc)
 
 pub same-ballot : (key : Key) (version : ℕ) (below ballot : Ballot) (fact : Fact) → is_active fact ≡ false → with_ballot key version below ballot fact ≡ ballot
 same-ballot key version below ballot (Fact.Booted epoch) h = absurd (cc)
+same-ballot key version below ballot (Fact.Floor origin era upto) h = absurd (cc)
 same-ballot key version below ballot (Fact.Promised k low high b) h = absurd (cc)
 same-ballot key version below ballot (Fact.Voted k v b options offered) h =
     let fast = ballot_eq-same b fast_ballot (parts-false (ballot_eq b fast_ballot) (nat_lt 0 (length (accepts_in options))) h).0 in
@@ -99,6 +102,7 @@ active-chain key version facts = kept-both is_active (is_of_instance key version
 -- no vote brings deltas
 pub active-deltas : (key : Key) (version : ℕ) → Covers (is_active_of key version) (is_delta_in key version)
 active-deltas key version (Fact.Booted epoch) h = absurd (cc)
+active-deltas key version (Fact.Floor origin era upto) h = absurd (cc)
 active-deltas key version (Fact.Promised k low high b) h = absurd (cc)
 active-deltas key version (Fact.Voted k v b options offered) h = absurd (cc)
 active-deltas key version (Fact.Heard tx outcome) h = deltas-covered key version (Fact.Heard tx outcome) h
@@ -131,9 +135,9 @@ module _ (keep : Fact → Bool) (key : Key) (version : ℕ) where
       | inl active ↦ elim (cases_Bool (keep fact)) [
         | inl kept ↦
             rw (active, kept) (
-            ap (λ counted. load_steps seen void key version (fold (with_live seen) load (filter counted (live_from key version fact))) (filter keep (filter is_active facts)))
+            ap (λ counted. load_steps seen void key version (fold (with_live seen) load (filter counted (plain_live_from key version fact))) (filter keep (filter is_active facts)))
             (λ i (e : TxId × Update). not (void e.0) && not (any-active e.0 facts i))
-            ∙ load-active (fold (with_live seen) load (filter (λ e. is_counted void (filter keep facts) key version e.0) (live_from key version fact))) facts
+            ∙ load-active (fold (with_live seen) load (filter (λ e. is_counted void (filter keep facts) key version e.0) (plain_live_from key version fact))) facts
             )
         | inr left ↦ rw (active, left) (load-active load facts)
       ]

@@ -1,5 +1,5 @@
 -- The promise of an instance is the greater of what was promised of its key and of what was voted in it.
-use Rattle.std.proofs.Common.{◌≡◌, ℕ, Bool, true, false, List, [], ◌∷◌, refl, sym, ap, ◌∙◌, inl, inr}
+use Rattle.std.proofs.Common.{◌≡◌, ℕ, true, false, List, [], ◌∷◌, refl, sym, ap, ◌∙◌, inl, inr}
 use Rattle.std.specs.List.{filter, fold}
 use Rattle.std.proofs.lemmas.Bool.{cases_Bool}
 use Rattle.mdcc_base.specs.Ballot.{ballot_max, fast_ballot}
@@ -16,6 +16,7 @@ use Rattle.mdcc_fact_index.specs.Tallies.{ballot_of_vote, greatest_voted}
 ballot-of : (key : Key) (version : ℕ) (fact : Fact) → is_vote_in key version fact ≡ true → ballot_promised key version fact ≡ ballot_of_vote key version fact
 ballot-of key version (Fact.Voted k v ballot options offered) h = refl
 ballot-of key version (Fact.Booted epoch) h = absurd (cc)
+ballot-of key version (Fact.Floor origin era upto) h = absurd (cc)
 ballot-of key version (Fact.Promised k low high ballot) h = absurd (cc)
 ballot-of key version (Fact.Heard tx outcome) h = absurd (cc)
 ballot-of key version (Fact.Adopted k v item adds) h = absurd (cc)
@@ -23,6 +24,7 @@ ballot-of key version (Fact.Adopted k v item adds) h = absurd (cc)
 no-ballot : (key : Key) (version : ℕ) (fact : Fact) → is_vote_in key version fact ≡ false → ballot_of_vote key version fact ≡ fast_ballot
 no-ballot key version (Fact.Voted k v ballot options offered) h = rw h refl
 no-ballot key version (Fact.Booted epoch) h = refl
+no-ballot key version (Fact.Floor origin era upto) h = refl
 no-ballot key version (Fact.Promised k low high ballot) h = refl
 no-ballot key version (Fact.Heard tx outcome) h = refl
 no-ballot key version (Fact.Adopted k v item adds) h = refl

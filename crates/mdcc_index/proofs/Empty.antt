@@ -8,6 +8,7 @@ use Rattle.mdcc_fact_index.specs.Entries.{Entries}
 use Rattle.mdcc_fact_index.specs.Heard.{HeardTxs}
 use Rattle.mdcc_fact_index.specs.Promises.{Kept}
 use Rattle.mdcc_fact_index.specs.Tallies.{HoldsTallies, Tallied}
+use Rattle.mdcc_fact_folds.proofs.Kept.{none-added}
 use Rattle.mdcc_index.specs.Stores.{HasRoom, Represents, store_of}
 
 module _ (cells entries : ℕ) (stored : Stored) (outcomes : HeardTxs) (promises : Kept) (instances active : Entries) (tallies : Tallied) (held : Versions) (unresolved : Numbered)
@@ -30,7 +31,7 @@ module _ (cells entries : ℕ) (stored : Stored) (outcomes : HeardTxs) (promises
     held = versions;
     unresolved = listed;
     epoch = refl;
-    added = record { voted = refl; heard = refl; ordered = refl };
+    added = none-added;
     few = λ key. omega arith;
   }
 

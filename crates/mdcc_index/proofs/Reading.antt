@@ -9,9 +9,9 @@ use Rattle.mdcc_base.specs.declared.key.Key.{Key}
 use Rattle.mdcc_option.specs.declared.choices.Choice.{Choice}
 use Rattle.mdcc_option.specs.declared.choices.Outcome.{Outcome}
 use Rattle.mdcc_messages.specs.declared.facts.Fact.{Fact}
-use Rattle.mdcc_protocol.specs.Facts.{heard_of, is_void}
+use Rattle.mdcc_protocol.specs.Facts.{heard_of}
+use Rattle.mdcc_protocol.specs.Plain.{plain_ended_of, plain_is_void}
 use Rattle.mdcc_protocol.specs.Marks.{is_abort, is_commit}
-use Rattle.mdcc_protocol.specs.Stores.{ended_of}
 use Rattle.mdcc_fact_cells.specs.Holding.{Holds}
 use Rattle.mdcc_fact_folds.specs.Live.{is_ordered}
 use Rattle.mdcc_fact_index.specs.Heard.{AreHeard, HeardTxs, ended_told, is_commit_spelled, number_found}
@@ -43,10 +43,10 @@ any-at test (c ∷ choices) (suc i) choice within at passes = later (test c.key)
 
 -- ---- whether a transaction is void
 
-ended-known : (encodings : List (List ℕ)) (index : HeardTxs) (facts : List Fact) (tx : TxId) → Holds encodings facts → AreHeard index facts → ended_told encodings index tx ≡ ended_of facts tx
+ended-known : (encodings : List (List ℕ)) (index : HeardTxs) (facts : List Fact) (tx : TxId) → Holds encodings facts → AreHeard index facts → ended_told encodings index tx ≡ plain_ended_of facts tx
 ended-known encodings index facts tx holds heard = by (number_found index tx) refl
   where
-    by : (found : Option ℕ) → number_found index tx ≡ found → option_map (λ number. is_commit_spelled (get_or encodings number [])) found ≡ ended_of facts tx
+    by : (found : Option ℕ) → number_found index tx ≡ found → option_map (λ number. is_commit_spelled (get_or encodings number [])) found ≡ plain_ended_of facts tx
     by None is = sym (ap (option_map is_commit) (answer-none index facts tx heard is))
     by (Some number) is = answer-commit encodings index facts tx number (is_commit_spelled (get_or encodings number [])) holds heard is refl
 
@@ -55,7 +55,7 @@ abort-known None = refl
 abort-known (Some Outcome.Abort) = refl
 abort-known (Some (Outcome.Commit choices)) = refl
 
-pub void-told : (store : Store) (facts : List Fact) → Represents store facts → is_void_told store ≡ is_void facts
+pub void-told : (store : Store) (facts : List Fact) → Represents store facts → is_void_told store ≡ plain_is_void facts
 void-told store facts kept =
     let each = λ (tx : TxId). ap is_abort_ended (ended-known store.cells.encodings store.outcomes facts tx kept.cells kept.outcomes) ∙ abort-known (heard_of facts tx) in
     λ i tx. each tx i

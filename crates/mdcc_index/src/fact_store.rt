@@ -30,6 +30,7 @@ impl FactStore for PoolFacts {
         self.promised(key, version, ballot)
     }
 
+    #[tactic(auto, using(mdcc_protocol::proofs::Plain::vote_plain))]
     fn vote_of(&self, key: &Key, version: u64, tx: TxId) -> Option<(Ballot, Mark)> {
         self.vote_of(key, version, tx)
     }
@@ -38,6 +39,7 @@ impl FactStore for PoolFacts {
         self.voted_below(key, version, below)
     }
 
+    #[tactic(auto, using(mdcc_protocol::proofs::Plain::shown_plain))]
     fn votes(
         &self,
         alloc: Global,
@@ -48,18 +50,27 @@ impl FactStore for PoolFacts {
         self.votes(alloc, key, version, ballot)
     }
 
-    fn count_voted(&self, key: &Key, version: u64, ballot: Ballot, options: &Options) -> usize {
+    #[tactic(auto, using(mdcc_facts::proofs::Unfinished::count_plain))]
+    fn count_past(&self, key: &Key, version: u64, ballot: Ballot, options: &Options) -> usize {
         self.count_voted(key, version, ballot, options)
     }
 
-    fn is_heard(&self, tx: TxId) -> bool {
+    #[tactic(auto, using(mdcc_protocol::proofs::Plain::settled_plain))]
+    fn is_settled(&self, tx: TxId) -> bool {
         self.is_heard(tx)
     }
 
+    #[tactic(auto, using(mdcc_facts::proofs::Unfinished::heard_plain, mdcc_protocol::proofs::Plain::finished_none))]
+    fn finished(&self, _tx: TxId) -> bool {
+        false
+    }
+
+    #[tactic(auto, using(mdcc_protocol::proofs::Plain::ended_plain))]
     fn ended(&self, tx: TxId) -> Option<bool> {
         self.ended(tx)
     }
 
+    #[tactic(auto, using(mdcc_protocol::proofs::Plain::kept_plain))]
     fn heard(&self, tx: TxId) -> Option<Outcome> {
         self.heard(tx)
     }
@@ -80,14 +91,17 @@ impl FactStore for PoolFacts {
         self.delta(key, tx)
     }
 
+    #[tactic(auto, using(mdcc_protocol::proofs::Plain::load_plain))]
     fn load(&self, key: &Key, version: u64, seen: &[TxId]) -> Load {
         self.load(key, version, seen)
     }
 
+    #[tactic(auto, using(mdcc_protocol::proofs::Plain::entries_at_plain))]
     fn entries(&self, key: &Key, version: u64) -> (u32, u32) {
         self.entries(key, version)
     }
 
+    #[tactic(auto, using(mdcc_protocol::proofs::Plain::mark_plain))]
     fn marks(
         &self,
         key: &Key,
@@ -98,6 +112,7 @@ impl FactStore for PoolFacts {
         self.marks(key, version, below, place)
     }
 
+    #[tactic(auto, using(mdcc_protocol::proofs::Plain::next_mark_plain))]
     fn mark_after(
         &self,
         key: &Key,
@@ -108,18 +123,22 @@ impl FactStore for PoolFacts {
         self.mark_after(key, version, below, last)
     }
 
+    #[tactic(auto, using(mdcc_protocol::proofs::Plain::unresolved_at_plain))]
     fn unresolved(&self, place: usize) -> Option<(TxId, WriteSet)> {
         self.unresolved(place)
     }
 
+    #[tactic(auto, using(mdcc_protocol::proofs::Plain::unresolved_plain))]
     fn write_set(&self, tx: TxId) -> Option<WriteSet> {
         self.write_set(tx)
     }
 
+    #[tactic(auto, using(mdcc_protocol::proofs::Plain::unresolved_plain))]
     fn unresolved_all(&self, alloc: Global) -> Result<HeapList<(TxId, WriteSet)>, Memory> {
         self.unresolved_all(alloc)
     }
 
+    #[tactic(auto, using(mdcc_protocol::proofs::Plain::choice_plain))]
     fn choice_of(&self, key: &Key, version: u64, tx: TxId) -> Option<Choice> {
         self.choice_of(key, version, tx)
     }

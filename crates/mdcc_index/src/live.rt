@@ -1,7 +1,7 @@
 //! What is live in an instance.
 ghost use Rattle.std.specs.Prelude.{◌≡◌, List};
 ghost use Rattle.mdcc_messages.specs.declared.facts.Fact.{Fact as AFact};
-ghost use Rattle.mdcc_protocol.specs.Stores.{load_at};
+ghost use Rattle.mdcc_protocol.specs.Plain.{plain_load_at};
 ghost use Rattle.mdcc_index.specs.Stores.{Represents, is_abort_ended};
 
 use crate::PoolFacts;
@@ -13,7 +13,7 @@ impl PoolFacts {
     /// What the live choices of an instance weigh beside a seen set. Counts stop at 2^32 - 1 and
     /// sums at 2^96.
     pub fn load(&self, key: &Key, version: u64, seen: &[TxId]) -> Load
-        ensures { (facts : List AFact) → Represents self.now facts → result ≡ load_at facts key.now version seen.now }
+        ensures { (facts : List AFact) → Represents self.now facts → result ≡ plain_load_at facts key.now version seen.now }
     {
         let instance = (*key, version);
         let walk = self.active.facts_of(&self.cells, &instance);

@@ -3,7 +3,7 @@ ghost use Rattle.std.specs.Prelude.{◌≡◌, ◌∷◌, ◌+◌, ◌*◌, [], 
 ghost use Rattle.mdcc_messages.specs.Lengths.{cells_needed};
 ghost use Rattle.mdcc_messages.specs.declared.facts.Fact.{Fact as AFact};
 ghost use Rattle.mdcc_protocol.specs.Facts.{epoch_of, heard_of, is_heard, promised_through};
-ghost use Rattle.mdcc_protocol.specs.Stores.{ended_of};
+ghost use Rattle.mdcc_protocol.specs.Plain.{plain_ended_of};
 ghost use Rattle.mdcc_facts.specs.Adding.{MayBeAdded, add_result};
 ghost use Rattle.mdcc_fact_folds.specs.Promises.{next_epoch};
 ghost use Rattle.mdcc_fact_tables.specs.HeldVersions.{HoldsVersions, no_versions};
@@ -183,7 +183,7 @@ impl PoolFacts {
     /// Whether the outcome that was heard of a transaction is a commit.
     pub fn ended(&self, tx: TxId) -> Option<bool>
         ensures told { result ≡ ended_told self.now.cells.encodings self.now.outcomes tx }
-        ensures ended { (facts : List AFact) → Represents self.now facts → result ≡ ended_of facts tx }
+        ensures ended { (facts : List AFact) → Represents self.now facts → result ≡ plain_ended_of facts tx }
     {
         self.outcomes.ended(&self.cells, tx)
     }

@@ -1,8 +1,7 @@
 //! The transactions that are not resolved.
 ghost use Rattle.std.specs.Prelude.{◌≡◌, ◌<◌, IfOk, List, length};
 ghost use Rattle.mdcc_messages.specs.declared.facts.Fact.{Fact as AFact};
-ghost use Rattle.mdcc_protocol.specs.Facts.{unresolved_of};
-ghost use Rattle.mdcc_protocol.specs.Stores.{unresolved_at};
+ghost use Rattle.mdcc_protocol.specs.Plain.{plain_unresolved_at, plain_unresolved_of};
 ghost use Rattle.mdcc_struct.specs.Maps.{value_of};
 ghost use Rattle.mdcc_fact_tables.specs.UnresolvedNumbers.{with_write_set, write_set_at};
 ghost use Rattle.mdcc_index.specs.Stores.{Represents};
@@ -36,7 +35,7 @@ impl PoolFacts {
     /// The transaction at a place, from 0, of those of which a vote holds a choice and whose
     /// outcome was not heard, ascending, with its write set.
     pub fn unresolved(&self, place: usize) -> Option<(TxId, WriteSet)>
-        ensures { (facts : List AFact) → Represents self.now facts → result ≡ unresolved_at facts place }
+        ensures { (facts : List AFact) → Represents self.now facts → result ≡ plain_unresolved_at facts place }
     {
         match self.unresolved.get(place) {
             Some(entry) => self.with_write_set(entry),
@@ -47,7 +46,7 @@ impl PoolFacts {
     /// The write set of a transaction of which a vote holds a choice and whose outcome was not
     /// heard.
     pub fn write_set(&self, tx: TxId) -> Option<WriteSet>
-        ensures { (facts : List AFact) → Represents self.now facts → result ≡ value_of (unresolved_of facts) tx }
+        ensures { (facts : List AFact) → Represents self.now facts → result ≡ value_of (plain_unresolved_of facts) tx }
     {
         match self.unresolved.find(tx) {
             Some(number) => self.write_set_by(tx, number),
@@ -57,7 +56,7 @@ impl PoolFacts {
 
     /// All such transactions, ascending, with their write sets.
     pub fn unresolved_all(&self, alloc: Global) -> Result<HeapList<(TxId, WriteSet)>, Memory>
-        ensures { (facts : List AFact) → Represents self.now facts → IfOk result (λ all. all ≡ unresolved_of facts) }
+        ensures { (facts : List AFact) → Represents self.now facts → IfOk result (λ all. all ≡ plain_unresolved_of facts) }
     {
         let mut all = HeapList::new(alloc);
         for place in 0..self.unresolved.len() as usize {

@@ -2,9 +2,10 @@
 ghost use Rattle.std.specs.List.{filter, fold};
 ghost use Rattle.std.specs.Prelude.{◌≡◌, ◌-◌, None, Some, IfOk, List, option_map, true};
 ghost use Rattle.mdcc_messages.specs.declared.facts.Fact.{Fact as AFact};
-ghost use Rattle.mdcc_protocol.specs.Facts.{choice_known, last_ballot, promise_of, vote_of, votes_of, write_sets_of};
+ghost use Rattle.mdcc_protocol.specs.Facts.{first_choice, last_ballot, last_vote, promise_of, votes_of, write_sets_of};
 ghost use Rattle.mdcc_struct.specs.Maps.{value_of};
-ghost use Rattle.mdcc_protocol.specs.Stores.{count_voted, entries_at, mark_after, mark_below};
+ghost use Rattle.mdcc_protocol.specs.Stores.{count_voted};
+ghost use Rattle.mdcc_protocol.specs.Plain.{plain_entries_at, plain_mark_after, plain_mark_below};
 ghost use Rattle.mdcc_fact_folds.specs.Chains.{is_of_instance};
 ghost use Rattle.mdcc_fact_folds.specs.Votes.{least_above, older_mark};
 ghost use Rattle.mdcc_fact_index.specs.Active.{is_active};
@@ -59,7 +60,7 @@ impl PoolFacts {
 
     // Whether there is no vote on a transaction in an instance, as far as tables tell.
     fn is_unvoted(&self, key: &Key, version: u64, tx: TxId) -> bool
-        ensures { (facts : List AFact) → Represents self.now facts → result ≡ true → vote_of facts key.now version tx ≡ None }
+        ensures { (facts : List AFact) → Represents self.now facts → result ≡ true → last_vote facts key.now version tx ≡ None }
     {
         let tally = self.tallies.tally(&(*key, version));
         if tally.bare {
@@ -71,7 +72,7 @@ impl PoolFacts {
 
     /// The mark of a transaction in an instance at the greatest ballot at which it was voted.
     pub fn vote_of(&self, key: &Key, version: u64, tx: TxId) -> Option<(Ballot, Mark)>
-        ensures { (facts : List AFact) → Represents self.now facts → result ≡ vote_of facts key.now version tx }
+        ensures { (facts : List AFact) → Represents self.now facts → result ≡ last_vote facts key.now version tx }
     {
         if self.is_unvoted(key, version, tx) {
             return None;
@@ -103,7 +104,7 @@ impl PoolFacts {
 
     /// The first choice of a transaction that a vote in the instance accepts or has as offered.
     pub fn choice_of(&self, key: &Key, version: u64, tx: TxId) -> Option<Choice>
-        ensures { (facts : List AFact) → Represents self.now facts → result ≡ choice_known facts key.now version tx }
+        ensures { (facts : List AFact) → Represents self.now facts → result ≡ first_choice facts key.now version tx }
     {
         let mut state = OlderChoice {
             key: *key,
@@ -134,7 +135,7 @@ impl PoolFacts {
     /// How many marks accept and how many reject in an instance at the fast ballot, each at most
     /// 2^32 - 1.
     pub fn entries(&self, key: &Key, version: u64) -> (u32, u32)
-        ensures { (facts : List AFact) → Represents self.now facts → result ≡ entries_at facts key.now version }
+        ensures { (facts : List AFact) → Represents self.now facts → result ≡ plain_entries_at facts key.now version }
     {
         let tally = self.tallies.tally(&(*key, version));
         (tally.accepts, tally.rejects)
@@ -200,7 +201,7 @@ impl PoolFacts {
         below: Ballot,
         last: Option<TxId>,
     ) -> Option<(Ballot, TxId, Mark)>
-        ensures { (facts : List AFact) → Represents self.now facts → result ≡ mark_after facts key.now version below last }
+        ensures { (facts : List AFact) → Represents self.now facts → result ≡ plain_mark_after facts key.now version below last }
     {
         if below.is(&Ballot::FAST) {
             None
@@ -211,7 +212,7 @@ impl PoolFacts {
 
     // Its transaction.
     fn tx_after(&self, key: &Key, version: u64, below: Ballot, last: Option<TxId>) -> Option<TxId>
-        ensures { (facts : List AFact) → Represents self.now facts → result ≡ option_map (λ mark. mark.1) (mark_after facts key.now version below last) }
+        ensures { (facts : List AFact) → Represents self.now facts → result ≡ option_map (λ mark. mark.1) (plain_mark_after facts key.now version below last) }
     {
         match self.mark_after(key, version, below, last) {
             Some((_, tx, _)) => Some(tx),
@@ -228,7 +229,7 @@ impl PoolFacts {
         below: Ballot,
         place: usize,
     ) -> Option<(Ballot, TxId, Mark)>
-        ensures { (facts : List AFact) → Represents self.now facts → result ≡ mark_below facts key.now version below place }
+        ensures { (facts : List AFact) → Represents self.now facts → result ≡ plain_mark_below facts key.now version below place }
     {
         let mut last = None;
         let mut left = place;

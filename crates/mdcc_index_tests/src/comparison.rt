@@ -41,7 +41,7 @@ pub(crate) fn is_ballot_alike<A: FactStore, B: FactStore>(
             == b.mark_after(key, version, ballot, Some(tx))
 }
 
-/// About the votes at a ballot of an instance, and how many of them were voted at another one.
+/// About the votes at a ballot of an instance, and how many of them are past at another one.
 pub(crate) fn are_votes_alike<A: FactStore, B: FactStore>(
     alloc: Global,
     a: &A,
@@ -56,16 +56,17 @@ pub(crate) fn are_votes_alike<A: FactStore, B: FactStore>(
     Ok(
         first.extends(&second)
             && second.extends(&first)
-            && a.count_voted(key, version, ballot, &first) == first.len()
-            && b.count_voted(key, version, ballot, &first) == first.len()
-            && a.count_voted(key, version, other, &first)
-                == b.count_voted(key, version, other, &first),
+            && a.count_past(key, version, ballot, &first) == first.len()
+            && b.count_past(key, version, ballot, &first) == first.len()
+            && a.count_past(key, version, other, &first)
+                == b.count_past(key, version, other, &first),
     )
 }
 
 /// About a transaction.
 pub(crate) fn is_tx_alike<A: FactStore, B: FactStore>(a: &A, b: &B, tx: TxId) -> bool {
-    a.is_heard(tx) == b.is_heard(tx)
+    a.is_settled(tx) == b.is_settled(tx)
+        && a.finished(tx) == b.finished(tx)
         && a.ended(tx) == b.ended(tx)
         && a.heard(tx) == b.heard(tx)
         && a.write_set(tx) == b.write_set(tx)

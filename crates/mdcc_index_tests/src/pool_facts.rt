@@ -32,13 +32,17 @@ fn are_added(alloc: Global, store: &mut PoolFacts, facts: &[Fact]) -> bool {
 }
 
 fn is_aborted(store: &PoolFacts, seq: u32) -> bool {
-    store.is_heard(tx(seq))
+    store.is_settled(tx(seq))
+        && !store.finished(tx(seq))
         && store.heard(tx(seq)) == Some(Outcome::Abort)
         && store.ended(tx(seq)) == Some(false)
 }
 
 fn is_unheard(store: &PoolFacts, seq: u32) -> bool {
-    !store.is_heard(tx(seq)) && store.heard(tx(seq)).is_none() && store.ended(tx(seq)).is_none()
+    !store.is_settled(tx(seq))
+        && !store.finished(tx(seq))
+        && store.heard(tx(seq)).is_none()
+        && store.ended(tx(seq)).is_none()
 }
 
 #[test]

@@ -9,8 +9,9 @@ use crate::comparison::{
 };
 use crate::random_facts::{Random, key};
 use mdcc_base::Memory;
-use mdcc_facts::{Fact, FactStore, ListFacts};
+use mdcc_facts::{Fact, FactStore};
 use mdcc_index::PoolFacts;
+use mdcc_list_facts::ListFacts;
 use mdcc_tests::adding::{add_news, reread};
 use std::alloc::Global;
 use std::test::Fail;

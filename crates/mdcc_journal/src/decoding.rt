@@ -3,14 +3,14 @@ ghost use Rattle.std.specs.Prelude.{◌≡◌};
 ghost use Rattle.mdcc_base.specs.Unless.{GivesUnless};
 ghost use Rattle.mdcc_parts.specs.Reads.{is_wire_memory};
 ghost use Rattle.mdcc_messages.specs.ReadingSteps.{checked, u8_at};
-ghost use Rattle.mdcc_messages.specs.Reading.{known, booted_at, promised_at, some_offered_at, offered_at, vote_at, heard_fact_at, adopted_at, fact_at, fact_of};
+ghost use Rattle.mdcc_messages.specs.Reading.{known, booted_at, promised_at, some_offered_at, offered_at, vote_at, heard_fact_at, adopted_at, floor_at, fact_at, fact_of};
 
 use mdcc_base::Key;
 use mdcc_messages::{Fact, WireFault};
 use mdcc_option::Choice;
 use mdcc_parts::choices::read_choice_of;
 use mdcc_parts::given::{read_given, read_heard, read_instance};
-use mdcc_parts::identifiers::read_ballot;
+use mdcc_parts::identifiers::{read_ballot, read_numbers};
 use mdcc_parts::marks::read_options;
 use mdcc_parts::numbers::{u8_at, u8_within, u32_within, u64_at};
 use std::alloc::Global;
@@ -115,12 +115,20 @@ fn adopted_at(alloc: Global, bytes: &[u8], at: usize) -> Result<(Fact, usize), W
     ))
 }
 
+// How far all have heard a centre's transactions.
+fn floor_at(bytes: &[u8], at: usize) -> Result<(Fact, usize), WireFault>
+    ensures { result ≡ floor_at bytes.now at }
+{
+    let ((centre, epoch, seq), after) = read_numbers(bytes, at)?;
+    Ok((Fact::Floor { centre, epoch, seq }, after))
+}
+
 // The byte at the front, the number of a kind of facts.
 fn kind_at(bytes: &[u8]) -> Result<(u8, usize), WireFault>
-    ensures { result ≡ checked (known 5) (u8_at bytes.now 0) }
+    ensures { result ≡ checked (known 1 6) (u8_at bytes.now 0) }
 {
     let (kind, after) = u8_at(bytes, 0)?;
-    if 1 <= kind && kind <= 5 {
+    if 1 <= kind && kind <= 6 {
         Ok((kind, after))
     } else {
         Err(WireFault::Kind)
@@ -145,7 +153,11 @@ fn fact_at(alloc: Global, kind: u8, bytes: &[u8], at: usize) -> Result<(Fact, us
             let (fact, after) = heard_fact_at(bytes, at)?;
             Ok((fact, after))
         }
-        _ => adopted_at(alloc, bytes, at),
+        5 => adopted_at(alloc, bytes, at),
+        _ => {
+            let (fact, after) = floor_at(bytes, at)?;
+            Ok((fact, after))
+        }
     }
 }
 

@@ -1,6 +1,6 @@
 //! Facts written to bytes.
 ghost use Rattle.std.specs.Prelude.{◌≡◌, ◌≤◌, ◌+◌, ◌++◌, ◌^◌, vec_len, vec_capacity, IsOk, OnOk, OnErr};
-ghost use Rattle.mdcc_messages.specs.Bytes.{u8_bytes, u64_bytes};
+ghost use Rattle.mdcc_messages.specs.Bytes.{u8_bytes, u32_bytes, u64_bytes};
 ghost use Rattle.mdcc_messages.specs.SpelledParts.{key_bytes, ballot_bytes};
 ghost use Rattle.mdcc_messages.specs.Spelling.{offered_bytes, fact_bytes};
 ghost use Rattle.mdcc_messages.specs.Lengths.{key_length, offered_length, fact_length};
@@ -9,7 +9,7 @@ ghost use Rattle.mdcc_journal.specs.Counts.{HasCounts};
 use mdcc_append::appending::{put_ballot, put_choice, put_key, put_u8, put_u32, put_u64};
 use mdcc_append::lengths::{choice_length, given_length, heard_length, key_length, options_length};
 use mdcc_append::marks::{put_given, put_heard, put_options};
-use mdcc_base::{Ballot, Key, Memory};
+use mdcc_base::{Ballot, Centre, Key, Memory};
 use mdcc_messages::Fact;
 use mdcc_option::Choice;
 
@@ -46,6 +46,7 @@ pub fn fact_length(fact: &Fact) -> usize
             adds,
             ..
         } => 1 + given_length(key, item, adds.as_slice()),
+        Fact::Floor { .. } => 10,
     }
 }
 
@@ -76,6 +77,18 @@ fn put_promised(key: &Key, low: u64, high: u64, ballot: &Ballot, out: &mut Vec<u
     put_u64(low, out);
     put_u64(high, out);
     put_ballot(ballot, out);
+}
+
+// Appends how far all have heard a centre's transactions, as a fact.
+fn put_floor(centre: Centre, epoch: u32, seq: u32, out: &mut Vec<u8>)
+    requires { vec_len out.old + 10 ≤ vec_capacity out.old }
+    ensures bytes { out.new.items ≡ out.old.items ++ (u8_bytes 6 ++ u8_bytes centre ++ u32_bytes epoch ++ u32_bytes seq) }
+    ensures capacity { vec_capacity out.old ≤ vec_capacity out.new }
+{
+    put_u8(6, out);
+    put_u8(centre.number(), out);
+    put_u32(epoch, out);
+    put_u32(seq, out);
 }
 
 // Appends a fact.
@@ -123,6 +136,7 @@ fn put_fact(fact: &Fact, out: &mut Vec<u8>)
             put_u8(5, out);
             put_given(key, *version, item, adds.as_slice(), out);
         }
+        Fact::Floor { centre, epoch, seq } => put_floor(*centre, *epoch, *seq, out),
     }
 }
 

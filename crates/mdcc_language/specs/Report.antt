@@ -10,7 +10,7 @@ use Rattle.mdcc_option.specs.declared.items.Token.{Token}
 use Rattle.mdcc_base.specs.declared.outside.Image.{Image}
 use Rattle.mdcc_base.specs.declared.outside.Image.TheVariants.{Lost, Kept, Torn}
 use Rattle.mdcc_language.specs.declared.lines.Line.{Line}
-use Rattle.mdcc_language.specs.declared.lines.Line.TheVariants.{Read, Begun, Refused, Deliver, Settle, Settled, Tick, Crash, Stop, Restart, Stopped, Dropped, Chosen, Heard, End}
+use Rattle.mdcc_language.specs.declared.lines.Line.TheVariants.{Read, Begun, Refused, Deliver, Settle, Settled, Tick, Sweep, Crash, Stop, Restart, Stopped, Dropped, Chosen, Heard, End}
 
 -- ---- words
 
@@ -71,6 +71,7 @@ words_text (Deliver number next) = codes "deliver " ++ decimal number ++ next_te
 words_text (Settle centres) = codes "settle" ++ flat_map (λ centre. codes " " ++ decimal centre) centres
 words_text (Settled deliveries next) = codes "settled " ++ decimal deliveries ++ next_text next
 words_text (Tick centre next) = codes "tick " ++ decimal centre ++ next_text next
+words_text (Sweep centre next) = codes "sweep " ++ decimal centre ++ next_text next
 words_text (Crash centre) = codes "crash " ++ decimal centre
 words_text (Stop centre call image) = codes "stop " ++ decimal centre ++ codes " " ++ decimal call ++ codes " " ++ image_text image
 words_text (Restart centre epoch) = codes "restart " ++ decimal centre ++ codes " epoch " ++ decimal epoch

@@ -29,6 +29,8 @@ pub enum Event {
     Settle(HeapList<Centre>),
     /// Time passes at a centre.
     Tick(Centre),
+    /// A centre tells all how far it has heard.
+    Sweep(Centre),
     /// A centre goes down, and loses all but its log.
     Crash(Centre),
     /// A centre is booted from its log.

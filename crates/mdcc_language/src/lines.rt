@@ -19,6 +19,8 @@ pub enum Line {
     Settled(u32, u32),
     /// Time passed at a centre; the next message.
     Tick(Centre, u32),
+    /// A centre told all how far it has heard; the next message.
+    Sweep(Centre, u32),
     /// A centre went down.
     Crash(Centre),
     /// The next append at a centre will stop.

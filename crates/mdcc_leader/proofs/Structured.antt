@@ -1,5 +1,5 @@
 -- Structures by version, and a claim at one of them.
-use Rattle.std.proofs.Common.{◌≡◌, ℕ, ◌+◌, ◌==◌, Bool, true, false, cond, nat_eq, List, [], ◌∷◌, ◌++◌, Option, Some, None, Result, Ok, Err, IfOk, OnOk, OnErr, is_some, refl, sym, ap, ◌∙◌, subst, inl, inr, arith}
+use Rattle.std.proofs.Common.{◌≡◌, ℕ, ◌+◌, ◌==◌, ◌||◌, Bool, true, false, cond, nat_eq, List, [], ◌∷◌, ◌++◌, Option, Some, None, Result, Ok, Err, IfOk, OnOk, OnErr, is_some, refl, sym, ap, ◌∙◌, subst, inl, inr, arith}
 use Rattle.std.proofs.lemmas.Bool.{cases_Bool}
 use Rattle.std.proofs.lemmas.Bool.Decides.{nat_tests}
 use Rattle.indexmap.specs.IndexMap.{insert_entry}
@@ -11,6 +11,7 @@ use Rattle.mdcc_option.specs.declared.choices.Mark.{Mark}
 use Rattle.mdcc_option.specs.declared.cluster.Cluster.{Cluster}
 use Rattle.mdcc_base.specs.TxId.{tx_eq}
 use Rattle.mdcc_base.specs.declared.identifiers.TxId.{TxId}
+use Rattle.mdcc_protocol.specs.Facts.{is_settled}
 use Rattle.mdcc_protocol.specs.Leader.{led_on}
 use Rattle.mdcc_protocol.specs.Structures.{is_left_out, mark_of_choice, with_claim}
 use Rattle.mdcc_protocol.specs.Volatile.{Lead, Leading, structure_at, structure_found, with_structure}
@@ -77,9 +78,10 @@ none-from None h = refl
 none-from (Some x) h = absurd (cc)
 
 -- its mark, and that it is not left out
-pub judged-some : (options : Options) (mark other : Mark) → Some other ≡ judged options mark → (is_left_out options mark ≡ false) × (other ≡ mark)
-judged-some options mark other h =
-    elim (cases_Bool (is_left_out options mark)) [
+pub judged-some : (facts : List Fact) (tx : TxId) (options : Options) (mark other : Mark) → Some other ≡ judged facts tx options mark
+    → ((is_settled facts tx || is_left_out options mark) ≡ false) × (other ≡ mark)
+judged-some facts tx options mark other h =
+    elim (cases_Bool (is_settled facts tx || is_left_out options mark)) [
       | inl out ↦ absurd (let bad : Some other ≡ None = h ∙ rw out refl in cc)
       | inr within ↦
           let same : Some other ≡ Some mark = h ∙ rw within refl in
@@ -87,19 +89,28 @@ judged-some options mark other h =
     ]
 
 -- that it is left out
-pub judged-none : (options : Options) (mark : Mark) → None ≡ judged options mark → is_left_out options mark ≡ true
-judged-none options mark h =
-    elim (cases_Bool (is_left_out options mark)) [
+pub judged-none : (facts : List Fact) (tx : TxId) (options : Options) (mark : Mark) → None ≡ judged facts tx options mark
+    → (is_settled facts tx || is_left_out options mark) ≡ true
+judged-none facts tx options mark h =
+    elim (cases_Bool (is_settled facts tx || is_left_out options mark)) [
       | inl out ↦ out
       | inr within ↦ absurd (let bad : None ≡ Some mark = h ∙ rw within refl in cc)
     ]
 
--- the branches of two tests
-first_of : {X : Type 0} (a b : Bool) (x y z : X) → b ≡ true → cond a x (cond b x z) ≡ x
-first_of true b x y z h = refl
-first_of false true x y z h = refl
-first_of false false x y z h = absurd (cc)
+-- what with_claim leaves, where the claim is left out and where it is put
+left_out : {X : Type 0} (has settled full : Bool) (x y : X) → (settled || full) ≡ true → cond (has || settled) x (cond full x y) ≡ x
+left_out true settled full x y h = refl
+left_out false true full x y h = refl
+left_out false false true x y h = refl
+left_out false false false x y h = absurd (cc)
 
+put_in : {X : Type 0} (has settled full : Bool) (x y : X) → has ≡ false → (settled || full) ≡ false → cond (has || settled) x (cond full x y) ≡ y
+put_in true settled full x y h k = absurd (cc)
+put_in false true full x y h k = absurd (cc)
+put_in false false true x y h k = absurd (cc)
+put_in false false false x y h k = refl
+
+-- the branches of two tests
 second_of : {X : Type 0} (a b : Bool) (x y z : X) → a ≡ false → b ≡ true → cond a x (cond b y z) ≡ y
 second_of true b x y z h k = absurd (cc)
 second_of false true x y z h k = refl
@@ -113,12 +124,12 @@ third_of false false x y z h k = refl
 -- it is left out
 pub led_on-left : (cluster : Cluster) (facts : List Fact) (leader : Leading) (of : Lead) (claim : Claim)
     → is_some (value_of (structure_at of.structures claim.version) claim.tx) ≡ false
-    → is_left_out (structure_at of.structures claim.version) (mark_of_choice cluster facts of.key claim.version (structure_at of.structures claim.version) claim.choice) ≡ true
+    → (is_settled facts claim.tx || is_left_out (structure_at of.structures claim.version) (mark_of_choice cluster facts of.key claim.version (structure_at of.structures claim.version) claim.choice)) ≡ true
     → ((led_on cluster facts leader of claim).0 ≡ LeadAnswer.Left) × (lead_extended cluster facts of claim ≡ of)
 led_on-left cluster facts leader of claim new out =
     let last = structure_at of.structures claim.version in
     let options = with_claim cluster facts of.key claim.version last (claim.tx, claim.choice) in
-    let same : options ≡ last = first_of (is_some (value_of last claim.tx)) (is_left_out last (mark_of_choice cluster facts of.key claim.version last claim.choice)) last last _ out in
+    let same : options ≡ last = left_out (is_some (value_of last claim.tx)) (is_settled facts claim.tx) (is_left_out last (mark_of_choice cluster facts of.key claim.version last claim.choice)) last _ out in
     let none : is_some (value_of options claim.tx) ≡ false = ap (λ o. is_some (value_of o claim.tx)) same ∙ new in (
       ap {A = LeadAnswer × Leading} (λ p. p.0) (third_of (is_some (value_of last claim.tx)) (is_some (value_of options claim.tx)) _ _ (LeadAnswer.Left, leader) new none),
       third_of (is_some (value_of last claim.tx)) (is_some (value_of options claim.tx)) of _ of new none,
@@ -127,7 +138,7 @@ led_on-left cluster facts leader of claim new out =
 -- it is marked
 pub led_on-put : (cluster : Cluster) (facts : List Fact) (leader : Leading) (of : Lead) (claim : Claim) (mark : Mark)
     → is_some (value_of (structure_at of.structures claim.version) claim.tx) ≡ false
-    → is_left_out (structure_at of.structures claim.version) (mark_of_choice cluster facts of.key claim.version (structure_at of.structures claim.version) claim.choice) ≡ false
+    → (is_settled facts claim.tx || is_left_out (structure_at of.structures claim.version) (mark_of_choice cluster facts of.key claim.version (structure_at of.structures claim.version) claim.choice)) ≡ false
     → mark ≡ mark_of_choice cluster facts of.key claim.version (structure_at of.structures claim.version) claim.choice
     → ((led_on cluster facts leader of claim).0 ≡ LeadAnswer.Accept claim.version of.ballot (inserted (structure_at of.structures claim.version) (claim.tx, mark)))
     × (lead_extended cluster facts of claim ≡ record of { structures = with_structure of.structures claim.version (inserted (structure_at of.structures claim.version) (claim.tx, mark)) })
@@ -135,7 +146,7 @@ led_on-put cluster facts leader of claim mark new within is =
     let last = structure_at of.structures claim.version in
     let made = mark_of_choice cluster facts of.key claim.version last claim.choice in
     let options = with_claim cluster facts of.key claim.version last (claim.tx, claim.choice) in
-    let put : options ≡ with_entry last (claim.tx, made) = third_of (is_some (value_of last claim.tx)) (is_left_out last made) last last _ new within in
+    let put : options ≡ with_entry last (claim.tx, made) = put_in (is_some (value_of last claim.tx)) (is_settled facts claim.tx) (is_left_out last made) last _ new within in
     let entry : with_entry last (claim.tx, made) ≡ inserted last (claim.tx, made) = by (is_some (value_of last claim.tx)) _ _ new in
     let same : options ≡ inserted last (claim.tx, mark) = put ∙ entry ∙ ap (λ m. inserted last (claim.tx, m)) (sym is) in
     let found : value_of (inserted last (claim.tx, mark)) claim.tx ≡ Some mark =

@@ -1,10 +1,11 @@
 -- What a lead is after a claim, and the structure that its promises give.
-use Rattle.std.specs.Prelude.{Err, List, None, Ok, Option, Result, Some, [], if◌then◌else◌, is_some, max, nat_le, ℕ, ◌+◌, ◌^◌}
+use Rattle.std.specs.Prelude.{Err, List, None, Ok, Option, Result, Some, [], if◌then◌else◌, is_some, max, nat_le, ℕ, ◌+◌, ◌^◌, ◌||◌}
+use Rattle.mdcc_base.specs.declared.identifiers.TxId.{TxId}
 use Rattle.mdcc_messages.specs.declared.facts.Fact.{Fact}
 use Rattle.mdcc_option.specs.declared.choices.Claim.{Claim}
 use Rattle.mdcc_option.specs.declared.choices.Mark.{Mark}
 use Rattle.mdcc_option.specs.declared.cluster.Cluster.{Cluster}
-use Rattle.mdcc_protocol.specs.Facts.{promise_of}
+use Rattle.mdcc_protocol.specs.Facts.{is_settled, promise_of}
 use Rattle.mdcc_protocol.specs.Leader.{has_proposed, lead_begun, reports_of}
 use Rattle.mdcc_protocol.specs.Structures.{first_structure, is_enough, is_left_out, with_claim}
 use Rattle.mdcc_protocol.specs.Volatile.{Lead, structure_at, with_structure}
@@ -32,9 +33,9 @@ begun_with cluster me epoch facts refused last claim =
     let round = 1 + max (promise_of facts claim.key claim.version).round (max refused last) in
     if nat_le (2 ^ 32) round then Err LeadFault.Exhausted else Ok (lead_begun cluster me epoch claim round)
 
--- the mark of a claim that its structure has not, unless it is left out
-abbrev pub judged : Options → Mark → Option Mark
-judged options mark = if is_left_out options mark then None else Some mark
+-- the mark of a claim that its structure has not, unless it is left out: where its transaction is settled, or there is no room
+abbrev pub judged : List Fact → TxId → Options → Mark → Option Mark
+judged facts tx options mark = if is_settled facts tx || is_left_out options mark then None else Some mark
 
 -- one promise more is counted; with the first that make them enough the structure stands, and no claim is pending
 abbrev pub lead_counted : Cluster → List Fact → Lead → Lead

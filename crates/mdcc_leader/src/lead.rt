@@ -470,7 +470,8 @@ fn has_mark(options: &Options, tx: TxId) -> bool
     options.mark_of(tx).is_some()
 }
 
-// The mark of a claim that its structure has not, unless it is left out.
+// The mark of a claim that its structure has not, unless it is left out: where its transaction was
+// heard or is finished, or there is no room.
 fn judge<S: FactStore>(
     store: &S,
     cluster: &Cluster,
@@ -479,8 +480,11 @@ fn judge<S: FactStore>(
     claim: &Claim,
 ) -> Option<Mark>
     ensures { (facts : List AFact) → S.stands store.now facts
-        → result ≡ judged options.now (mark_of_choice cluster.now facts key.now claim.now.version options.now claim.now.choice) }
+        → result ≡ judged facts claim.now.tx options.now (mark_of_choice cluster.now facts key.now claim.now.version options.now claim.now.choice) }
 {
+    if store.is_settled(claim.tx) {
+        return None;
+    }
     let choice = claim.choice.as_ref();
     let mark = mark_of_choice(store, cluster, key, claim.version, options, choice);
     if is_left_out(options, &mark) {

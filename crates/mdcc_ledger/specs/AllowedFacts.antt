@@ -16,7 +16,7 @@ use Rattle.mdcc_struct.specs.Maps.{value_of}
 use Rattle.mdcc_struct.specs.declared.options.Options.{Options}
 use Rattle.mdcc_protocol.specs.Acceptor.{new_marks, vote_on}
 use Rattle.mdcc_protocol.specs.Belongs.{fact_belongs}
-use Rattle.mdcc_protocol.specs.Facts.{current_of, epoch_of, heard_of, promise_of, promised_through, vote_of}
+use Rattle.mdcc_protocol.specs.Facts.{are_heard, current_of, epoch_of, floor_of, heard_of, is_finished, promise_of, promised_through, vote_of}
 use Rattle.mdcc_protocol.specs.News.{is_crowding, is_news}
 use Rattle.mdcc_protocol.specs.declared.acceptor.ProposeAnswer.{ProposeAnswer}
 use Rattle.mdcc_messages.specs.declared.facts.Fact.{Fact}
@@ -37,6 +37,7 @@ pub record MayVoteFast (cluster : Cluster) (facts : List Fact) (key : Key) (vers
   pub unpromised : promise_of facts key version ≡ fast_ballot
   pub unvoted : vote_of facts key version tx ≡ None
   pub unheard : heard_of facts tx ≡ None
+  pub unfinished : is_finished facts tx ≡ false
   pub answer : vote_on cluster facts choice ≡ ProposeAnswer.Vote mark
 
 -- it has one mark, with the choice offered exactly where it is a rejection
@@ -50,7 +51,7 @@ abbrev pub are_apart : Options → Bool
 are_apart [] = true
 are_apart (e ∷ es) = not (is_some (value_of es e.0)) && are_apart es
 
--- a vote at a classic ballot: at least one mark, each of a transaction that has none at this ballot yet. (Generalized Paxos.)
+-- a vote at a classic ballot: at least one mark, each of a transaction that is not finished and has none at this ballot yet. (Generalized Paxos.)
 pub record MayVoteClassic (facts : List Fact) (key : Key) (version : ℕ) (ballot : Ballot) (options : Options) (offered : Option Choice) : Type 0 where
   pub not_below : ballot_lt ballot (promise_of facts key version) ≡ false
   pub held : version ≤ current_of facts key
@@ -62,12 +63,18 @@ pub record MayVoteClassic (facts : List Fact) (key : Key) (version : ℕ) (ballo
 -- what is heard is new, and leaves at most 64 deltas on a version
 pub record MayHear (facts : List Fact) (tx : TxId) (outcome : Outcome) : Type 0 where
   pub unheard : heard_of facts tx ≡ None
+  pub unfinished : is_finished facts tx ≡ false
   pub room : is_crowding facts (Fact.Heard tx outcome) ≡ false
 
 -- what is adopted brings a higher version or a new delta, and leaves at most 64 deltas on a version
 pub record MayAdopt (facts : List Fact) (key : Key) (version : ℕ) (item : Item) (adds : List Delta) : Type 0 where
   pub news : IsTrue (is_news facts key version adds)
   pub room : is_crowding facts (Fact.Adopted key version item adds) ≡ false
+
+-- a floor rises, over transactions that were all heard here. (Our own rule.)
+pub record MaySetFloor (facts : List Fact) (centre epoch seq : ℕ) : Type 0 where
+  pub above : floor_of facts centre epoch < seq
+  pub heard : IsTrue (are_heard facts centre epoch seq)
 
 abbrev pub is_booted : Fact → Bool
 is_booted (Fact.Booted epoch) = true
@@ -81,6 +88,7 @@ MayAddKind cluster facts (Fact.Voted key version ballot options offered) =
     MatchBool (is_fast ballot) (IsFastVote cluster facts key version options offered) (MayVoteClassic facts key version ballot options offered)
 MayAddKind cluster facts (Fact.Heard tx outcome) = MayHear facts tx outcome
 MayAddKind cluster facts (Fact.Adopted key version item adds) = MayAdopt facts key version item adds
+MayAddKind cluster facts (Fact.Floor centre epoch seq) = MaySetFloor facts centre epoch seq
 
 -- the first fact of a centre is Booted, and each is of this cluster
 pub record MayAdd (cluster : Cluster) (facts : List Fact) (fact : Fact) : Type 0 where

@@ -1,10 +1,12 @@
 -- Which ledgers are allowed: each entry meets its condition over the entries before it. There is one row for each kind of entry:
 -- a transaction is begun (IsAllowedBegun), a structure is sent (IsAllowedValued), and a fact is added, which its centre may add
 -- after its own facts (MayAdd) and which the other entries back (IsBacked).
-use Rattle.std.specs.List.{list_any}
-use Rattle.std.specs.Prelude.{Bool, IsTrue, List, MatchBool, None, Ok, Option, Some, [], false, if◌then◌else◌, length, map, not, ℕ, ⊤, ◌&&◌, ◌++◌, ◌+◌, ◌<◌, ◌==◌, ◌∷◌, ◌≡◌, ◌≤◌}
+use Rattle.std.specs.List.{list_all, list_any}
+use Rattle.std.specs.Prelude.{Bool, IsTrue, List, MatchBool, None, Ok, Option, Some, [], false, if◌then◌else◌, length, map, not, ℕ, ⊤, ◌&&◌, ◌++◌, ◌+◌, ◌<◌, ◌==◌, ◌∷◌, ◌≡◌, ◌≤◌, ◌⊎◌}
 use Rattle.mdcc_base.specs.Ballot.{ballot_eq, is_fast}
 use Rattle.mdcc_base.specs.Key.{key_eq}
+use Rattle.mdcc_base.specs.Quorums.{all_centres}
+use Rattle.mdcc_base.specs.Sizes.{Sizes}
 use Rattle.mdcc_base.specs.declared.identifiers.Ballot.{Ballot}
 use Rattle.mdcc_base.specs.declared.identifiers.TxId.{TxId}
 use Rattle.mdcc_base.specs.declared.key.Key.{Key}
@@ -18,7 +20,7 @@ use Rattle.mdcc_option.specs.declared.items.Part.{Part}
 use Rattle.mdcc_struct.specs.Maps.{union, value_of}
 use Rattle.mdcc_struct.specs.declared.options.Options.{Options}
 use Rattle.mdcc_protocol.specs.Belongs.{is_centre}
-use Rattle.mdcc_protocol.specs.Facts.{base_of, current_of, epoch_of, executed_of, votes_of}
+use Rattle.mdcc_protocol.specs.Facts.{are_heard, base_of, current_of, epoch_of, executed_of, is_finished, votes_of}
 use Rattle.mdcc_ledger.specs.Ledger.{Added, Entry, Valued, facts_of, outcome_of}
 use Rattle.mdcc_protocol.specs.Manager.{parts_begin_fault}
 use Rattle.mdcc_protocol.specs.Marks.{options_eq}
@@ -72,11 +74,11 @@ is_valued_as key version ballot options _ = false
 abbrev pub is_valued : List Entry → Key → ℕ → Ballot → Options → Bool
 is_valued before key version ballot options = list_any (is_valued_as key version ballot options) before
 
--- marks are those of a structure that was sent
-pub record IsSent (before : List Entry) (key : Key) (version : ℕ) (ballot : Ballot) (options : Options) : Type 0 where
+-- marks are those of a structure that was sent, but that finished transactions may be missing
+pub record IsSent (before : List Entry) (facts : List Fact) (key : Key) (version : ℕ) (ballot : Ballot) (options : Options) : Type 0 where
   pub structure : Options
   pub was : IsTrue (is_valued before key version ballot structure)
-  pub same : (tx : TxId) → value_of options tx ≡ value_of structure tx
+  pub same : (tx : TxId) → (value_of options tx ≡ value_of structure tx) ⊎ ((value_of options tx ≡ None) × IsTrue (is_finished facts tx))
 
 -- a vote at the fast ballot is on a choice that was begun
 abbrev pub is_fast_vote_begun : List Entry → Key → ℕ → Options → Option Choice → Bool
@@ -90,18 +92,23 @@ pub record WasHeld (before : List Entry) (key : Key) (version : ℕ) (item : Ite
   pub base : base_of (facts_of earlier b) key ≡ Some item
   pub executed : executed_of (facts_of earlier b) key ≡ map (λ delta. (delta.tx, delta.amounts)) adds
 
+-- whether each centre heard each transaction of an epoch from the first through this number
+abbrev pub did_all_hear : Sizes → List Entry → ℕ → ℕ → ℕ → Bool
+did_all_hear quorums before centre epoch seq = list_all (λ b. are_heard (facts_of before b) centre epoch seq) (all_centres quorums)
+
 -- one row for each kind of fact: a fast vote is on a begun choice, a classic one makes the centre's votes a structure that was sent,
--- what is heard is the outcome, and what is adopted was held somewhere
+-- what is heard is the outcome, what is adopted was held somewhere, and a floor is over what all centres heard
 abbrev pub IsBacked : Cluster → List Entry → ℕ → Fact → Type 0
 IsBacked cluster before a (Fact.Booted epoch) = ⊤
 IsBacked cluster before a (Fact.Promised key low high ballot) = ⊤
 IsBacked cluster before a (Fact.Voted key version ballot options offered) =
     MatchBool (is_fast ballot)
     (IsTrue (is_fast_vote_begun before key version options offered))
-    (IsSent before key version ballot (union (votes_of (facts_of before a) key version ballot) options))
+    (IsSent before (facts_of before a) key version ballot (union (votes_of (facts_of before a) key version ballot) options))
 IsBacked cluster before a (Fact.Heard tx outcome) = outcome_of cluster.quorums before tx ≡ Some outcome
 IsBacked cluster before a (Fact.Adopted key version item adds) =
     (b : ℕ) × (later : List Entry) × (earlier : List Entry) × WasHeld before key version item adds b later earlier
+IsBacked cluster before a (Fact.Floor centre epoch seq) = IsTrue (did_all_hear cluster.quorums before centre epoch seq)
 
 -- ---- entries and ledgers
 

@@ -1,6 +1,6 @@
 -- Which structure a leader may send: its marks are on begun choices, and it is made of what a classic quorum promised and reported, or extends the last one.
-use Rattle.std.specs.List.{list_all, list_any}
-use Rattle.std.specs.Prelude.{Bool, IsTrue, List, None, Option, Some, [], false, filter, length, map, nat_le, not, true, ℕ, ◌&&◌, ◌+◌, ◌==◌, ◌∷◌, ◌≡◌, ◌≤◌, ◌⊎◌}
+use Rattle.std.specs.List.{AllByRecursion, list_all, list_any}
+use Rattle.std.specs.Prelude.{Bool, IsTrue, List, None, Option, Some, [], false, filter, length, map, nat_le, not, true, ℕ, ◌&&◌, ◌++◌, ◌+◌, ◌==◌, ◌∷◌, ◌≡◌, ◌≤◌, ◌⊎◌}
 use Rattle.mdcc_base.specs.Ballot.{ballot_eq}
 use Rattle.mdcc_base.specs.Key.{key_eq}
 use Rattle.mdcc_base.specs.Quorums.{all_centres}
@@ -58,9 +58,18 @@ has_promised before key version ballot a = list_any (has_promised_in key version
 abbrev pub promisers_of : Sizes → List Entry → Key → ℕ → Ballot → List ℕ
 promisers_of quorums before key version ballot = filter (has_promised before key version ballot) (all_centres quorums)
 
--- what the centres report below the ballot
-abbrev pub reports_at : List Entry → Key → ℕ → Ballot → List ℕ → List Report
-reports_at before key version ballot centres = map (λ a. report_of a (facts_of before a) key version ballot) centres
+-- a centre, at an earlier entry at which it had promised the ballot, reported just this below it. What it shows later may be less
+pub record WasReported (before : List Entry) (key : Key) (version : ℕ) (ballot : Ballot) (report : Report) (later earlier : List Entry) : Type 0 where
+  pub parts : before ≡ later ++ earlier
+  pub promised : IsTrue (has_promised earlier key version ballot report.centre)
+  pub same : report ≡ report_of report.centre (facts_of earlier report.centre) key version ballot
+
+abbrev pub IsReport : List Entry → Key → ℕ → Ballot → Report → Type 0
+IsReport before key version ballot report = (later : List Entry) × (earlier : List Entry) × WasReported before key version ballot report later earlier
+
+-- the centres that the reports are from
+abbrev pub centres_of : List Report → List ℕ
+centres_of reports = map (λ report. report.centre) reports
 
 abbrev pub are_distinct : List ℕ → Bool
 are_distinct [] = true
@@ -72,12 +81,13 @@ IsAmongCentres centres among = IsTrue (list_all (λ a. list_any (λ b. a == b) a
 
 -- ---- how it is made
 
--- the first structure of a ballot, made from enough centres that promised it, a classic quorum or more, and some claims. (Fast Paxos; Generalized Paxos.)
-pub record IsFirstStructure (cluster : Cluster) (before : List Entry) (a : ℕ) (key : Key) (version : ℕ) (ballot : Ballot) (options : Options) (centres : List ℕ) (claims : TxMap (Option Choice)) : Type 0 where
+-- the first structure of a ballot, made from the reports of enough centres that promised it, a classic quorum or more, and some claims. (Fast Paxos; Generalized Paxos.)
+pub record IsFirstStructure (cluster : Cluster) (before : List Entry) (a : ℕ) (key : Key) (version : ℕ) (ballot : Ballot) (options : Options) (reports : List Report) (claims : TxMap (Option Choice)) : Type 0 where
   pub none_before : structure_valued before key version ballot ≡ None
-  pub promised : IsAmongCentres centres (promisers_of cluster.quorums before key version ballot)
-  pub enough : IsTrue (is_enough cluster (facts_of before a) key version (reports_at before key version ballot centres))
-  pub made : options ≡ first_structure cluster (facts_of before a) key version claims (reports_at before key version ballot centres)
+  pub promised : IsAmongCentres (centres_of reports) (promisers_of cluster.quorums before key version ballot)
+  pub reported : AllByRecursion (IsReport before key version ballot) reports
+  pub enough : IsTrue (is_enough cluster (facts_of before a) key version reports)
+  pub made : options ≡ first_structure cluster (facts_of before a) key version claims reports
 
 -- a later structure, which extends the last one by the mark of a claim
 pub record IsNextStructure (cluster : Cluster) (before : List Entry) (a : ℕ) (key : Key) (version : ℕ) (ballot : Ballot) (options last : Options) (claim : TxId × Option Choice) : Type 0 where
@@ -88,5 +98,5 @@ pub record IsNextStructure (cluster : Cluster) (before : List Entry) (a : ℕ) (
 -- a structure is the first of its ballot on the instance, or a later one
 abbrev pub IsMade : Cluster → List Entry → ℕ → Key → ℕ → Ballot → Options → Type 0
 IsMade cluster before a key version ballot options =
-    ((centres : List ℕ) × (claims : TxMap (Option Choice)) × IsFirstStructure cluster before a key version ballot options centres claims)
+    ((reports : List Report) × (claims : TxMap (Option Choice)) × IsFirstStructure cluster before a key version ballot options reports claims)
     ⊎ ((last : Options) × (claim : TxId × Option Choice) × IsNextStructure cluster before a key version ballot options last claim)

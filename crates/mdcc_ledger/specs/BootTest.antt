@@ -15,7 +15,7 @@ use Rattle.mdcc_option.specs.declared.cluster.Cluster.{Cluster}
 use Rattle.mdcc_struct.specs.declared.options.Options.{Options}
 use Rattle.mdcc_protocol.specs.Acceptor.{new_marks, vote_on}
 use Rattle.mdcc_protocol.specs.Belongs.{fact_belongs}
-use Rattle.mdcc_protocol.specs.Facts.{current_of, epoch_of, is_heard, promise_of, promised_through, vote_of}
+use Rattle.mdcc_protocol.specs.Facts.{are_heard, current_of, epoch_of, floor_of, is_finished, is_heard, promise_of, promised_through, vote_of}
 use Rattle.mdcc_protocol.specs.News.{is_crowding, is_news}
 use Rattle.mdcc_protocol.specs.declared.acceptor.ProposeAnswer.{ProposeAnswer}
 use Rattle.mdcc_messages.specs.declared.facts.Fact.{Fact}
@@ -42,6 +42,7 @@ is_allowed_mark cluster facts key version tx mark choice =
     && is_fast (promise_of facts key version)
     && not (is_some (vote_of facts key version tx))
     && not (is_heard facts tx)
+    && not (is_finished facts tx)
     && is_answer mark (vote_on cluster facts choice)
 
 abbrev pub is_allowed_fast_vote : Cluster → List Fact → Key → ℕ → Options → Option Choice → Bool
@@ -66,9 +67,11 @@ is_allowed_kind cluster facts (Fact.Promised key low high ballot) = is_allowed_p
 is_allowed_kind cluster facts (Fact.Voted key version ballot options offered) =
     if is_fast ballot then is_allowed_fast_vote cluster facts key version options offered
     else is_allowed_classic_vote facts key version ballot options offered
-is_allowed_kind cluster facts (Fact.Heard tx outcome) = not (is_heard facts tx) && not (is_crowding facts (Fact.Heard tx outcome))
+is_allowed_kind cluster facts (Fact.Heard tx outcome) =
+    not (is_heard facts tx) && not (is_finished facts tx) && not (is_crowding facts (Fact.Heard tx outcome))
 is_allowed_kind cluster facts (Fact.Adopted key version item adds) =
     is_news facts key version adds && not (is_crowding facts (Fact.Adopted key version item adds))
+is_allowed_kind cluster facts (Fact.Floor centre epoch seq) = nat_lt (floor_of facts centre epoch) seq && are_heard facts centre epoch seq
 
 -- whether a fact may stand after these facts of its centre
 abbrev pub is_allowed_fact : Cluster → List Fact → Fact → Bool

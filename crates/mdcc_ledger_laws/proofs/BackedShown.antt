@@ -1,9 +1,12 @@
 -- A fact that passes the test of what backs it is backed.
-use Rattle.std.proofs.Common.{◌≡◌, ℕ, Bool, true, false, cond, List, [], ◌∷◌, map, refl, ap, inl, inr, Option, Some, None, Decides, MatchBool}
+use Rattle.std.proofs.Common.{◌≡◌, ℕ, Bool, true, false, cond, not, ◌==◌, ◌&&◌, ◌||◌, List, [], ◌∷◌, map, is_some, refl, sym, ap, ◌∙◌, inl, inr, ◌⊎◌, Option, Some, None, Decides, MatchBool}
 use Rattle.std.specs.List.{list_any}
-use Rattle.std.proofs.lemmas.Bool.{or_cases}
+use Rattle.std.proofs.lemmas.Bool.{and_parts, and_from, cases_Bool, or_cases, or_left, or_right}
 use Rattle.std.proofs.lemmas.Bool.Decides.{Decides-eqb, Decides-and, Decides-like}
-use Rattle.mdcc_base.specs.Ballot.{is_fast}
+use Rattle.mdcc_base.specs.Ballot.{ballot_eq, is_fast}
+use Rattle.mdcc_base.specs.Key.{key_eq}
+use Rattle.mdcc_base.specs.TxId.{tx_eq}
+use Rattle.mdcc_base.specs.declared.identifiers.Ballot.{Ballot}
 use Rattle.mdcc_base.specs.Quorums.{all_centres}
 use Rattle.mdcc_base.specs.declared.identifiers.TxId.{TxId}
 use Rattle.mdcc_base.specs.declared.key.Key.{Key}
@@ -12,14 +15,28 @@ use Rattle.mdcc_option.specs.declared.cluster.Cluster.{Cluster}
 use Rattle.mdcc_option.specs.declared.items.Delta.{Delta}
 use Rattle.mdcc_option.specs.declared.items.Item.{Item}
 use Rattle.mdcc_option.proofs.Equal.{Decides-amounts, Decides-choices, Decides-item, Decides-tx}
-use Rattle.mdcc_struct.specs.Maps.{TxMap, union}
-use Rattle.mdcc_ledger.specs.AllowedLedgers.{IsBacked, WasHeld}
-use Rattle.mdcc_ledger_laws.specs.LedgerTest.{deltas_eq, did_hold, is_base_eq, is_fact_backed, is_outcome_found, was_held}
-use Rattle.mdcc_protocol.specs.Facts.{base_of, current_of, executed_of, votes_of}
-use Rattle.mdcc_ledger.specs.Ledger.{Entry, facts_of, outcome_of}
-use Rattle.mdcc_protocol.specs.Marks.{Amounts}
+use Rattle.mdcc_struct.specs.Maps.{TxMap, union, value_of}
+use Rattle.mdcc_struct.specs.declared.options.Options.{Options}
+use Rattle.mdcc_ledger.specs.AllowedLedgers.{IsBacked, IsSent, WasHeld, is_valued_as}
+use Rattle.mdcc_ledger_laws.specs.LedgerTest.{deltas_eq, did_hold, is_base_eq, is_fact_backed, is_outcome_found, is_valued_but, was_held, without_finished}
+use Rattle.mdcc_protocol.specs.Facts.{base_of, current_of, executed_of, is_finished, votes_of}
+use Rattle.mdcc_ledger.specs.Ledger.{Added, Entry, Valued, facts_of, outcome_of}
+use Rattle.mdcc_protocol.specs.Marks.{Amounts, options_eq}
 use Rattle.mdcc_messages.specs.declared.facts.Fact.{Fact}
 use Rattle.mdcc_ledger_laws.proofs.Found.{found}
+use Rattle.mdcc_ledger_laws.proofs.ValuedShown.{Decides-options}
+
+none_of : {X : Type 0} (o : Option X) → is_some o ≡ false → o ≡ None
+none_of None h = refl
+none_of (Some x) h = absurd cc
+
+not_false : (b : Bool) → not b ≡ false → b ≡ true
+not_false true h = refl
+not_false false h = absurd cc
+
+or_false : (a b : Bool) → (a || b) ≡ false → (a ≡ false) × (b ≡ false)
+or_false true b h = absurd cc
+or_false false b h = (refl, h)
 
 -- ---- what is heard
 
@@ -76,6 +93,55 @@ held_shown cluster (e ∷ es) key version item adds h =
           )
     ]
 
+-- ---- a vote at a classic ballot
+
+-- where a mark is left out of a structure, its transaction is finished and not among the votes
+left_out : (facts : List Fact) (options structure : Options) (tx : TxId)
+    → (value_of (without_finished facts options structure) tx ≡ value_of structure tx)
+    ⊎ ((value_of options tx ≡ None) × (is_finished facts tx ≡ true))
+left_out facts options [] tx = inl refl
+left_out facts options (e ∷ es) tx =
+    elim (cases_Bool (tx_eq e.0 tx)) [
+      | inl same ↦ elim (cases_Bool (is_some (value_of options e.0) || not (is_finished facts e.0))) [
+        | inl kept ↦ inl (rw (kept, same) refl)
+        | inr gone ↦
+            let at_tx : e.0 ≡ tx = (Decides-tx e.0 tx).0 same in
+            let parts : (is_some (value_of options e.0) ≡ false) × (not (is_finished facts e.0) ≡ false) = or_false _ _ gone in
+            inr (ap (value_of options) (sym at_tx) ∙ none_of _ parts.0, ap (is_finished facts) (sym at_tx) ∙ not_false _ parts.1)
+      ]
+      | inr other ↦ elim (cases_Bool (is_some (value_of options e.0) || not (is_finished facts e.0))) [
+        | inl kept ↦ elim (left_out facts options es tx) [ inl rest ↦ inl (rw (kept, other) rest) | inr gone ↦ inr gone ]
+        | inr gone ↦ elim (left_out facts options es tx) [ inl rest ↦ inl (rw (gone, other) rest) | inr out ↦ inr out ]
+      ]
+    ]
+
+sent_here : (facts : List Fact) (key : Key) (version : ℕ) (ballot : Ballot) (options : Options) (entry : Entry)
+    → is_valued_but facts key version ballot options entry ≡ true
+    → (structure : Options) × (is_valued_as key version ballot structure entry ≡ true)
+    × ((tx : TxId) → (value_of options tx ≡ value_of structure tx) ⊎ ((value_of options tx ≡ None) × (is_finished facts tx ≡ true)))
+sent_here facts key version ballot options (Added a fact) h = absurd cc
+sent_here facts key version ballot options (Entry.Begun a tx choices) h = absurd cc
+sent_here facts key version ballot options (Valued a key' version' ballot' structure) h =
+    let last : ((version' == version && ballot_eq ballot' ballot && key_eq key' key) ≡ true) × (options_eq (without_finished facts options structure) options ≡ true) = and_parts _ _ h in
+    let same : without_finished facts options structure ≡ options = (Decides-options (without_finished facts options structure) options).0 last.1 in (
+      structure,
+      and_from _ (options_eq structure structure) last.0 ((Decides-options structure structure).1 refl),
+      (λ tx. elim (left_out facts options structure tx) [ inl e ↦ inl (ap (λ (os : Options). value_of os tx) (sym same) ∙ e) | inr gone ↦ inr gone ]),
+    )
+
+sent_shown : (before : List Entry) (facts : List Fact) (key : Key) (version : ℕ) (ballot : Ballot) (options : Options)
+    → list_any (is_valued_but facts key version ballot options) before ≡ true → IsSent before facts key version ballot options
+sent_shown [] facts key version ballot options h = absurd cc
+sent_shown (e ∷ es) facts key version ballot options h =
+    elim (or_cases (is_valued_but facts key version ballot options e) (list_any (is_valued_but facts key version ballot options) es) h) [
+      | inl here ↦
+          let sent = sent_here facts key version ballot options e here in
+          record { structure = sent.0; was = or_left (is_valued_as key version ballot sent.0 e) _ sent.1; same = sent.2 }
+      | inr there ↦
+          let sent = sent_shown es facts key version ballot options there in
+          record { structure = sent.structure; was = or_right (is_valued_as key version ballot sent.structure e) _ sent.was; same = sent.same }
+    ]
+
 -- ---- facts
 
 by_either : {P Q : Type 0} (b x y : Bool) → (x ≡ true → P) → (y ≡ true → Q) → cond b x y ≡ true → MatchBool b P Q
@@ -87,6 +153,7 @@ backed_shown cluster before a (Fact.Booted epoch) h = tt
 backed_shown cluster before a (Fact.Promised key low high ballot) h = tt
 backed_shown cluster before a (Fact.Voted key version ballot options offered) h =
     by_either (is_fast ballot) _ _ (λ e. e)
-    (λ e. record { structure = union (votes_of (facts_of before a) key version ballot) options; was = e; same = λ tx. refl }) h
+    (λ e. sent_shown before (facts_of before a) key version ballot (union (votes_of (facts_of before a) key version ballot) options) e) h
 backed_shown cluster before a (Fact.Heard tx outcome) h = (Decides-outcome outcome (outcome_of cluster.quorums before tx)).0 h
 backed_shown cluster before a (Fact.Adopted key version item adds) h = held_shown cluster before key version item adds h
+backed_shown cluster before a (Fact.Floor centre epoch seq) h = h

@@ -17,10 +17,10 @@ use Rattle.mdcc_option.proofs.Equal.{Decides-tx, Decides-key, Decides-mark}
 use Rattle.mdcc_struct.specs.Maps.{value_of}
 use Rattle.mdcc_struct.specs.declared.options.Options.{Options}
 use Rattle.mdcc_protocol.specs.Acceptor.{vote_on}
-use Rattle.mdcc_ledger.specs.AllowedFacts.{MayPromise, MayVoteFast, IsFastVote, are_apart, MayVoteClassic, MayHear, MayAdopt, is_booted, MayAddKind, MayAdd}
+use Rattle.mdcc_ledger.specs.AllowedFacts.{MayPromise, MayVoteFast, IsFastVote, are_apart, MayVoteClassic, MayHear, MayAdopt, MaySetFloor, is_booted, MayAddKind, MayAdd}
 use Rattle.mdcc_ledger.specs.BootTest.{is_allowed_promise, is_answer, is_allowed_mark, is_allowed_fast_vote, is_allowed_classic_vote, is_allowed_kind, is_allowed_fact, are_allowed_facts}
 use Rattle.mdcc_protocol.specs.Belongs.{fact_belongs}
-use Rattle.mdcc_protocol.specs.Facts.{current_of, epoch_of, heard_of, promise_of, promised_through, vote_of, votes_of}
+use Rattle.mdcc_protocol.specs.Facts.{are_heard, current_of, epoch_of, floor_of, heard_of, is_finished, promise_of, promised_through, vote_of, votes_of}
 use Rattle.mdcc_protocol.specs.News.{is_crowding, is_news}
 use Rattle.mdcc_protocol.specs.declared.acceptor.ProposeAnswer.{ProposeAnswer}
 use Rattle.mdcc_messages.specs.declared.facts.Fact.{Fact}
@@ -51,17 +51,18 @@ Decides-voted : (cluster : Cluster) (facts : List Fact) (key : Key) (version : �
 Decides-voted cluster facts key version tx mark choice =
     Decides-like (is_allowed_mark cluster facts key version tx mark choice)
     (λ h. record {
-      of_tx = h.0.0.0.0.0.0.0;
-      of_version = h.0.0.0.0.0.0.1;
-      of_key = h.0.0.0.0.0.1;
-      held = h.0.0.0.0.1;
-      unpromised = h.0.0.0.1;
-      unvoted = h.0.0.1;
-      unheard = h.0.1;
+      of_tx = h.0.0.0.0.0.0.0.0;
+      of_version = h.0.0.0.0.0.0.0.1;
+      of_key = h.0.0.0.0.0.0.1;
+      held = h.0.0.0.0.0.1;
+      unpromised = h.0.0.0.0.1;
+      unvoted = h.0.0.0.1;
+      unheard = h.0.0.1;
+      unfinished = h.0.1;
       answer = h.1;
     })
-    (λ m. (((((((m.of_tx, m.of_version), m.of_key), m.held), m.unpromised), m.unvoted), m.unheard), m.answer))
-    (Decides-and _ _ (Decides-and _ _ (Decides-and _ _ (Decides-and _ _ (Decides-and _ _ (Decides-and _ _ (Decides-and _ _
+    (λ m. ((((((((m.of_tx, m.of_version), m.of_key), m.held), m.unpromised), m.unvoted), m.unheard), m.unfinished), m.answer))
+    (Decides-and _ _ (Decides-and _ _ (Decides-and _ _ (Decides-and _ _ (Decides-and _ _ (Decides-and _ _ (Decides-and _ _ (Decides-and _ _
     (Decides-tx choice.tx tx)
     (Decides-eqb choice.version version))
     (Decides-key choice.key key))
@@ -69,6 +70,7 @@ Decides-voted cluster facts key version tx mark choice =
     (Decides-fast (promise_of facts key version)))
     (Decides-none (vote_of facts key version tx)))
     (Decides-none (heard_of facts tx)))
+    (Decides-false (is_finished facts tx)))
     (Decides-answer mark (vote_on cluster facts choice)))
 
 Decides-fast_vote : (cluster : Cluster) (facts : List Fact) (key : Key) (version : ℕ) (options : Options) (offered : Option Choice)
@@ -90,17 +92,18 @@ Decides-classic_vote facts key version ballot options offered =
     (Decides-leb version (current_of facts key)))
     (Decides-ltb 0 (length options)))
     (Decides-true (are_apart options)))
-    (Decides-kept_all (λ e. not (is_some (value_of (votes_of facts key version ballot) e.0))) options))
+    (Decides-kept_all (λ e. not (is_some (value_of (votes_of facts key version ballot) e.0) || is_finished facts e.0)) options))
     (Decides-none offered))
 
 -- ---- what is heard or adopted
 
 Decides-heard : (facts : List Fact) (tx : TxId) (outcome : Outcome)
-    → Decides (not (is_some (heard_of facts tx)) && not (is_crowding facts (Fact.Heard tx outcome))) (MayHear facts tx outcome)
+    → Decides (not (is_some (heard_of facts tx)) && not (is_finished facts tx) && not (is_crowding facts (Fact.Heard tx outcome))) (MayHear facts tx outcome)
 Decides-heard facts tx outcome =
-    Decides-like (not (is_some (heard_of facts tx)) && not (is_crowding facts (Fact.Heard tx outcome)))
-    (λ h. record { unheard = h.0; room = h.1 }) (λ m. (m.unheard, m.room))
-    (Decides-and _ _ (Decides-none (heard_of facts tx)) (Decides-false (is_crowding facts (Fact.Heard tx outcome))))
+    Decides-like (not (is_some (heard_of facts tx)) && not (is_finished facts tx) && not (is_crowding facts (Fact.Heard tx outcome)))
+    (λ h. record { unheard = h.0.0; unfinished = h.0.1; room = h.1 }) (λ m. ((m.unheard, m.unfinished), m.room))
+    (Decides-and _ _ (Decides-and _ _
+    (Decides-none (heard_of facts tx)) (Decides-false (is_finished facts tx))) (Decides-false (is_crowding facts (Fact.Heard tx outcome))))
 
 Decides-adopted : (facts : List Fact) (key : Key) (version : ℕ) (item : Item) (adds : List Delta)
     → Decides (is_news facts key version adds && not (is_crowding facts (Fact.Adopted key version item adds))) (MayAdopt facts key version item adds)
@@ -108,6 +111,15 @@ Decides-adopted facts key version item adds =
     Decides-like (is_news facts key version adds && not (is_crowding facts (Fact.Adopted key version item adds)))
     (λ h. record { news = h.0; room = h.1 }) (λ m. (m.news, m.room))
     (Decides-and _ _ (Decides-true (is_news facts key version adds)) (Decides-false (is_crowding facts (Fact.Adopted key version item adds))))
+
+-- ---- floors
+
+Decides-floor : (facts : List Fact) (centre epoch seq : ℕ)
+    → Decides (nat_lt (floor_of facts centre epoch) seq && are_heard facts centre epoch seq) (MaySetFloor facts centre epoch seq)
+Decides-floor facts centre epoch seq =
+    Decides-like (nat_lt (floor_of facts centre epoch) seq && are_heard facts centre epoch seq)
+    (λ h. record { above = h.0; heard = h.1 }) (λ m. (m.above, m.heard))
+    (Decides-and _ _ (Decides-ltb (floor_of facts centre epoch) seq) (Decides-true (are_heard facts centre epoch seq)))
 
 -- ---- facts
 
@@ -119,6 +131,7 @@ Decides-kind cluster facts (Fact.Voted key version ballot options offered) =
     (Decides-classic_vote facts key version ballot options offered)
 Decides-kind cluster facts (Fact.Heard tx outcome) = Decides-heard facts tx outcome
 Decides-kind cluster facts (Fact.Adopted key version item adds) = Decides-adopted facts key version item adds
+Decides-kind cluster facts (Fact.Floor centre epoch seq) = Decides-floor facts centre epoch seq
 
 pub Decides-fact : (cluster : Cluster) (facts : List Fact) (fact : Fact) → Decides (is_allowed_fact cluster facts fact) (MayAdd cluster facts fact)
 Decides-fact cluster facts fact =

@@ -1,6 +1,9 @@
 -- A structure that passes the test is allowed.
-use Rattle.std.proofs.Common.{◌≡◌, ℕ, ◌+◌, Bool, true, not, ◌==◌, List, [], ◌∷◌, length, refl, inl, inr, Option, Some, None, Decides}
-use Rattle.std.proofs.lemmas.Bool.{and_parts, eqb-true}
+use Rattle.std.proofs.Common.{◌≡◌, ℕ, ◌+◌, Bool, true, not, ◌==◌, List, [], ◌∷◌, length, refl, sym, ap, ◌∙◌, subst, inl, inr, Option, Some, None, Decides}
+use Rattle.std.proofs.lemmas.Bool.{and_parts, cases_Bool, eqb-true, or_cases}
+use Rattle.std.specs.List.{AllByRecursion, list_all, list_any}
+use Rattle.std.specs.Prelude.{filter, ◌||◌}
+use Rattle.mdcc_base.specs.Quorums.{all_centres}
 use Rattle.std.proofs.lemmas.Bool.Decides.{Decides-eqb, Decides-ltb, Decides-and, Decides-like}
 use Rattle.mdcc_base.specs.Ballot.{is_fast}
 use Rattle.mdcc_base.specs.declared.identifiers.Ballot.{Ballot}
@@ -12,8 +15,8 @@ use Rattle.mdcc_option.specs.declared.cluster.Cluster.{Cluster}
 use Rattle.mdcc_option.proofs.Equal.{Decides-mark, Decides-tx}
 use Rattle.mdcc_struct.specs.declared.options.Options.{Options}
 use Rattle.mdcc_ledger.specs.AllowedLedgers.{IsAllowedValued}
-use Rattle.mdcc_ledger.specs.AllowedStructures.{IsAmongCentres, IsFirstStructure, IsMade, IsNextStructure, are_begun, has_promised, promisers_of, reports_at}
-use Rattle.mdcc_ledger_laws.specs.LedgerTest.{claims_in, is_made, is_made_by, is_made_from, is_next_structure, is_valued_allowed, subsets}
+use Rattle.mdcc_ledger.specs.AllowedStructures.{IsAmongCentres, IsFirstStructure, IsMade, IsNextStructure, IsReport, are_begun, centres_of, has_promised, promisers_of}
+use Rattle.mdcc_ledger_laws.specs.LedgerTest.{claims_in, is_made, is_made_by, is_made_from, is_next_structure, is_valued_allowed, reports_now, subsets}
 use Rattle.mdcc_protocol.specs.Facts.{current_of, epoch_of}
 use Rattle.mdcc_ledger.specs.Ledger.{Entry, facts_of, structure_valued}
 use Rattle.mdcc_protocol.specs.Marks.{choice_in, options_eq}
@@ -30,19 +33,54 @@ Decides-options (a ∷ as') (b ∷ bs) =
     Decides-like (options_eq (a ∷ as') (b ∷ bs)) (λ h i. (h.0 i, h.1.0 i) ∷ h.1.1 i) (λ e. let first : a ≡ b = cc in (cc, (cc, cc)))
     (Decides-and _ _ (Decides-tx a.0 b.0) (Decides-and _ _ (Decides-mark a.1 b.1) (Decides-options as' bs)))
 
+-- ---- what centres report now
+
+centres_now : (before : List Entry) (key : Key) (version : ℕ) (ballot : Ballot) (centres : List ℕ) → centres_of (reports_now before key version ballot centres) ≡ centres
+centres_now before key version ballot [] = refl
+centres_now before key version ballot (a ∷ as') = ap (λ (bs : List ℕ). a ∷ bs) (centres_now before key version ballot as')
+
+among_filtered : (test : ℕ → Bool) (a : ℕ) (xs : List ℕ) → list_any (λ b. a == b) (filter test xs) ≡ true → test a ≡ true
+among_filtered test a [] h = absurd cc
+among_filtered test a (x ∷ xs) h =
+    elim (cases_Bool (test x)) [
+      | inl e ↦
+          let more : (a == x || list_any (λ b. a == b) (filter test xs)) ≡ true = rw e at h in
+          elim (or_cases (a == x) (list_any (λ b. a == b) (filter test xs)) more) [
+            | inl here ↦ ap test (eqb-true a x here) ∙ e
+            | inr there ↦ among_filtered test a xs there
+          ]
+      | inr e ↦ among_filtered test a xs (rw e at h)
+    ]
+
+promised_each : (cluster : Cluster) (before : List Entry) (key : Key) (version : ℕ) (ballot : Ballot) (centres : List ℕ)
+    → list_all (λ a. list_any (λ b. a == b) (promisers_of cluster.quorums before key version ballot)) centres ≡ true
+    → AllByRecursion (λ a. has_promised before key version ballot a ≡ true) centres
+promised_each cluster before key version ballot [] h = tt
+promised_each cluster before key version ballot (a ∷ as') h =
+    let parts = and_parts (list_any (λ b. a == b) (promisers_of cluster.quorums before key version ballot)) _ h in
+    (among_filtered (has_promised before key version ballot) a (all_centres cluster.quorums) parts.0, promised_each cluster before key version ballot as' parts.1)
+
+reported_now : (cluster : Cluster) (before : List Entry) (key : Key) (version : ℕ) (ballot : Ballot) (centres : List ℕ)
+    → AllByRecursion (λ a. has_promised before key version ballot a ≡ true) centres
+    → AllByRecursion (IsReport before key version ballot) (reports_now before key version ballot centres)
+reported_now cluster before key version ballot [] h = tt
+reported_now cluster before key version ballot (a ∷ as') h =
+    (([], before, record { parts = refl; promised = h.0; same = refl }), reported_now cluster before key version ballot as' h.1)
+
 -- ---- how it is made
 
 first_shown : (cluster : Cluster) (before : List Entry) (a : ℕ) (key : Key) (version : ℕ) (ballot : Ballot) (options : Options) (centres : List ℕ)
     → structure_valued before key version ballot ≡ None → IsAmongCentres centres (promisers_of cluster.quorums before key version ballot)
     → is_made_from cluster before a key version ballot options centres ≡ true
-    → IsFirstStructure cluster before a key version ballot options centres (claims_in options)
+    → IsFirstStructure cluster before a key version ballot options (reports_now before key version ballot centres) (claims_in options)
 first_shown cluster before a key version ballot options centres none among h =
-    let parts : (is_enough cluster (facts_of before a) key version (reports_at before key version ballot centres) ≡ true)
-    × (options_eq options (first_structure cluster (facts_of before a) key version (claims_in options) (reports_at before key version ballot centres)) ≡ true) =
+    let parts : (is_enough cluster (facts_of before a) key version (reports_now before key version ballot centres) ≡ true)
+    × (options_eq options (first_structure cluster (facts_of before a) key version (claims_in options) (reports_now before key version ballot centres)) ≡ true) =
     and_parts _ _ h in
     record {
       none_before = none;
-      promised = among;
+      promised = subst (λ named. IsAmongCentres named (promisers_of cluster.quorums before key version ballot)) (sym (centres_now before key version ballot centres)) among;
+      reported = reported_now cluster before key version ballot centres (promised_each cluster before key version ballot centres among.0);
       enough = parts.0;
       made = (Decides-options options _).0 parts.1;
     }
@@ -69,7 +107,7 @@ made_shown cluster before a key version ballot options None none h =
     let centres = promisers_of cluster.quorums before key version ballot in
     let made = found_with (λ among. IsAmongCentres among centres) (is_made_from cluster before a key version ballot options) (subsets centres)
     (subsets-among centres (distinct-filtered (has_promised before key version ballot) 1 cluster.quorums.centres)) h in
-    inl (made.0, claims_in options, first_shown cluster before a key version ballot options made.0 none made.1 made.2)
+    inl (reports_now before key version ballot made.0, claims_in options, first_shown cluster before a key version ballot options made.0 none made.1 made.2)
 made_shown cluster before a key version ballot options (Some last) there h =
     let next = next_shown cluster before a key version ballot options last there h in
     inr (last, next.0, next.1)

@@ -1,7 +1,9 @@
 -- A test that a ledger is allowed, for computed schedules: it looks for the sets of centres and the claims of which `IsAllowed` only says that there are some.
+-- It takes what centres report as they do now, and not what they reported before some marks were forgotten.
 use Rattle.std.specs.List.{list_any}
-use Rattle.std.specs.Prelude.{Bool, List, None, Option, Some, [], false, if◌then◌else◌, is_ok, is_some, length, map, nat_le, nat_lt, not, true, ℕ, ◌&&◌, ◌++◌, ◌+◌, ◌==◌, ◌||◌, ◌∷◌}
-use Rattle.mdcc_base.specs.Ballot.{is_fast}
+use Rattle.std.specs.Prelude.{Bool, List, None, Option, Some, [], false, filter, if◌then◌else◌, is_ok, is_some, length, map, nat_le, nat_lt, not, true, ℕ, ◌&&◌, ◌++◌, ◌+◌, ◌==◌, ◌||◌, ◌∷◌}
+use Rattle.mdcc_base.specs.Ballot.{ballot_eq, is_fast}
+use Rattle.mdcc_base.specs.Key.{key_eq}
 use Rattle.mdcc_base.specs.Quorums.{all_centres}
 use Rattle.mdcc_base.specs.TxId.{tx_eq}
 use Rattle.mdcc_base.specs.declared.identifiers.Ballot.{Ballot}
@@ -17,13 +19,14 @@ use Rattle.mdcc_option.specs.declared.items.Delta.{Delta}
 use Rattle.mdcc_option.specs.declared.items.Item.{Item}
 use Rattle.mdcc_option.specs.declared.items.Part.{Part}
 use Rattle.mdcc_option.specs.declared.schema.Schema.{Schema}
-use Rattle.mdcc_struct.specs.Maps.{TxMap, union}
+use Rattle.mdcc_struct.specs.Maps.{TxMap, union, value_of}
 use Rattle.mdcc_struct.specs.declared.options.Options.{Options}
-use Rattle.mdcc_ledger.specs.AllowedLedgers.{is_fast_vote_begun, is_valued, part_in, seqs_begun}
-use Rattle.mdcc_ledger.specs.AllowedStructures.{are_begun, promisers_of, reports_at}
+use Rattle.mdcc_struct.specs.declared.report.Report.{Report}
+use Rattle.mdcc_ledger.specs.AllowedLedgers.{did_all_hear, is_fast_vote_begun, part_in, seqs_begun}
+use Rattle.mdcc_ledger.specs.AllowedStructures.{are_begun, promisers_of}
 use Rattle.mdcc_ledger.specs.BootTest.{is_allowed_fact}
 use Rattle.mdcc_protocol.specs.Belongs.{is_centre}
-use Rattle.mdcc_protocol.specs.Facts.{base_of, current_of, epoch_of, executed_of, votes_of}
+use Rattle.mdcc_protocol.specs.Facts.{base_of, current_of, epoch_of, executed_of, is_finished, report_of, votes_of}
 use Rattle.mdcc_ledger.specs.Ledger.{Added, Entry, Valued, facts_of, outcome_of, structure_valued}
 use Rattle.mdcc_protocol.specs.Manager.{parts_begin_fault}
 use Rattle.mdcc_protocol.specs.Marks.{Amounts, choice_in, options_eq}
@@ -56,10 +59,14 @@ subsets (a ∷ as') = let rest = subsets as' in map (λ s. a ∷ s) rest ++ rest
 abbrev pub claims_in : Options → TxMap (Option Choice)
 claims_in options = map (λ e. (e.0, choice_in e.1)) options
 
+-- what the centres report now below the ballot
+abbrev pub reports_now : List Entry → Key → ℕ → Ballot → List ℕ → List Report
+reports_now before key version ballot centres = map (λ a. report_of a (facts_of before a) key version ballot) centres
+
 abbrev pub is_made_from : Cluster → List Entry → ℕ → Key → ℕ → Ballot → Options → List ℕ → Bool
 is_made_from cluster before a key version ballot options centres =
-    is_enough cluster (facts_of before a) key version (reports_at before key version ballot centres)
-    && options_eq options (first_structure cluster (facts_of before a) key version (claims_in options) (reports_at before key version ballot centres))
+    is_enough cluster (facts_of before a) key version (reports_now before key version ballot centres)
+    && options_eq options (first_structure cluster (facts_of before a) key version (claims_in options) (reports_now before key version ballot centres))
 
 abbrev pub is_next_structure : Cluster → List Entry → ℕ → Key → ℕ → Options → Options → Bool
 is_next_structure cluster before a key version options last =
@@ -105,12 +112,23 @@ was_held cluster [] key version item adds = false
 was_held cluster (e ∷ es) key version item adds =
     list_any (did_hold (e ∷ es) key version item adds) (all_centres cluster.quorums) || was_held cluster es key version item adds
 
+-- a structure without the finished transactions that are not among these marks
+abbrev pub without_finished : List Fact → Options → Options → Options
+without_finished facts options structure = filter (λ e. is_some (value_of options e.0) || not (is_finished facts e.0)) structure
+
+-- marks are those of a structure that was sent, but for finished transactions
+abbrev pub is_valued_but : List Fact → Key → ℕ → Ballot → Options → Entry → Bool
+is_valued_but facts key version ballot options (Valued a key' version' ballot' structure) =
+    version' == version && ballot_eq ballot' ballot && key_eq key' key && options_eq (without_finished facts options structure) options
+is_valued_but facts key version ballot options _ = false
+
 abbrev pub is_fact_backed : Cluster → List Entry → ℕ → Fact → Bool
 is_fact_backed cluster before a (Fact.Voted key version ballot options offered) =
     if is_fast ballot then is_fast_vote_begun before key version options offered
-    else is_valued before key version ballot (union (votes_of (facts_of before a) key version ballot) options)
+    else list_any (is_valued_but (facts_of before a) key version ballot (union (votes_of (facts_of before a) key version ballot) options)) before
 is_fact_backed cluster before a (Fact.Heard tx outcome) = is_outcome_found outcome (outcome_of cluster.quorums before tx)
 is_fact_backed cluster before a (Fact.Adopted key version item adds) = was_held cluster before key version item adds
+is_fact_backed cluster before a (Fact.Floor centre epoch seq) = did_all_hear cluster.quorums before centre epoch seq
 is_fact_backed cluster before a _ = true
 
 abbrev pub is_entry_allowed : Cluster → List Entry → Entry → Bool

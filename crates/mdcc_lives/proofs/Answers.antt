@@ -79,6 +79,8 @@ module _ (config : Config) (done : List (ℕ × Act)) (es : List Entry) where
   message-back epoch envelope (Message.Escalate key version tx cause) h = h
   message-back epoch envelope (Message.Ask tx key version) h = h
   message-back epoch envelope (Message.SyncAsk key) h = h
+  message-back epoch envelope (Message.Mark origin era upto) h = h
+  message-back epoch envelope (Message.Finished ended) h = h
 
   line-back : (mail : List Mail) (a : ℕ) (line : ServerLine) → IsTrueBy config (but_all_answers done) es mail a (Act.Print line) → IsTrueBy config done es mail a (Act.Print line)
   line-back mail a (ServerLine.Heard centre tx is_commit) h = h
@@ -127,6 +129,7 @@ true-back config done durable ledger h = record {
   facts = h.facts;
   sound = h.sound;
   heads = h.heads;
+  begun = rw (sym (steps-back done)) h.begun;
   few = rw (sym (steps-back done)) h.few;
   acts = acts-back config done ledger h.mail done h.acts;
 }

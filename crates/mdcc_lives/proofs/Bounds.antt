@@ -7,9 +7,11 @@ use Rattle.mdcc_config.specs.declared.config.Config.{Config}
 use Rattle.mdcc_messages.specs.Lengths.{cells_needed, cells_used}
 use Rattle.mdcc_messages.specs.declared.facts.Fact.{Fact}
 use Rattle.mdcc_option.specs.declared.cluster.Cluster.{Cluster}
-use Rattle.mdcc_protocol.specs.Facts.{epoch_of}
+use Rattle.mdcc_protocol.proofs.Plain.{cells_plain, no_floor_more}
+use Rattle.mdcc_protocol.specs.Cells.{cells_held}
+use Rattle.mdcc_protocol.specs.Facts.{epoch_of, has_floor}
 use Rattle.mdcc_rules.specs.Boot.{booted_by, is_past_cells, next_boot}
-use Rattle.mdcc_rules.specs.Steps.{NodeStep}
+use Rattle.mdcc_rules.specs.Steps.{NodeStep, with_new}
 use Rattle.mdcc_rules.specs.declared.node.Input.{Input}
 use Rattle.mdcc_rules.specs.declared.node.StepFault.{StepFault}
 use Rattle.mdcc_run_laws.proofs.Joined.{node_after_run}
@@ -23,6 +25,7 @@ use Rattle.mdcc_runs.specs.Sites.{Site}
 use Rattle.mdcc_runs.specs.Turns.{Given, inputs_taken, is_held, released, turn_of}
 use Rattle.mdcc_steps.proofs.Cells.{few-celled}
 use Rattle.mdcc_steps.proofs.Roomy.{room-stays}
+use Rattle.mdcc_steps.proofs.Unfloored.{fit-plain, unfloored-stays, within-plain}
 use Rattle.mdcc_clusters.proofs.Posted.{posts}
 use Rattle.mdcc_clusters.specs.Clusters.{with_few}
 use Rattle.mdcc_clusters.specs.Executions.{IsWithinLimits}
@@ -31,23 +34,31 @@ use Rattle.mdcc_lives.specs.Lives.{Life, Serves, log_before}
 
 -- ---- cells
 
-cells-step : (cluster : Cluster) (me : ℕ) (node : NodeState) (input : Input) (r : Result NodeStep StepFault) → step_on cluster me node input ≡ r → cells_used node.facts ≤ cluster.cells
-    → cells_used (after_step node r).facts ≤ cluster.cells
-cells-step cluster me node input (Err fault) is few = few
-cells-step cluster me node input (Ok step) is few = room-stays cluster me node.facts node.volatile input step few is
+-- no floor is set, and the facts lie in the cells
+abbrev HaveCells : Cluster → List Fact → Type 0
+HaveCells cluster facts = (has_floor facts ≡ false) × (cells_used facts ≤ cluster.cells)
 
-cells-run : (cluster : Cluster) (me : ℕ) (node : NodeState) (inputs : List Input) → cells_used node.facts ≤ cluster.cells → cells_used (after_run cluster me node inputs).facts ≤ cluster.cells
+cells-step : (cluster : Cluster) (me : ℕ) (node : NodeState) (input : Input) (r : Result NodeStep StepFault) → step_on cluster me node input ≡ r → HaveCells cluster node.facts
+    → HaveCells cluster (after_step node r).facts
+cells-step cluster me node input (Err fault) is few = few
+cells-step cluster me node input (Ok step) is few =
+    let plain = unfloored-stays cluster me node.facts node.volatile input step few.0 is in (
+      plain,
+      within-plain cluster (with_new node.facts step.fact) plain (room-stays cluster me node.facts node.volatile input step (fit-plain cluster node.facts few.0 few.1) is),
+    )
+
+cells-run : (cluster : Cluster) (me : ℕ) (node : NodeState) (inputs : List Input) → HaveCells cluster node.facts → HaveCells cluster (after_run cluster me node inputs).facts
 cells-run cluster me node [] few = few
 cells-run cluster me node (input ∷ inputs) few =
     cells-run cluster me (after_step node (step_on cluster me node input)) inputs (cells-step cluster me node input (step_on cluster me node input) refl few)
 
 module _ (config : Config) where
-  inputs-few : (site : Site) (given : Given) → cells_used site.node.facts ≤ config.cluster.cells → cells_used (inputs_taken config site given).site.node.facts ≤ config.cluster.cells
+  inputs-few : (site : Site) (given : Given) → HaveCells config.cluster site.node.facts → HaveCells config.cluster (inputs_taken config site given).site.node.facts
   inputs-few site given few =
       let runs = inputs_run config site given in
       let inputs : List Input = turn_inputs config site given in
       let is : (inputs_taken config site given).site.node ≡ after_run config.cluster site.centre site.node inputs = runs.node_is ∙ node_after_run config.cluster site.centre site.node inputs in
-      subst (λ (n : NodeState). cells_used n.facts ≤ config.cluster.cells) (sym is) (cells-run config.cluster site.centre site.node inputs few)
+      subst (λ (n : NodeState). HaveCells config.cluster n.facts) (sym is) (cells-run config.cluster site.centre site.node inputs few)
 
   -- nothing comes to its node as it is let out
   out-node : (site : Site) → (persist_then_send config site).site.node ≡ site.node
@@ -57,10 +68,10 @@ module _ (config : Config) where
   released-node true site = refl
   released-node false site = out-node site
 
-  turn-few : (site : Site) (given : Given) → cells_used site.node.facts ≤ config.cluster.cells → cells_used (turn_of config site given).site.node.facts ≤ config.cluster.cells
+  turn-few : (site : Site) (given : Given) → HaveCells config.cluster site.node.facts → HaveCells config.cluster (turn_of config site given).site.node.facts
   turn-few site given few =
       let inputs = inputs_taken config site given in
-      subst (λ (n : NodeState). cells_used n.facts ≤ config.cluster.cells) (sym (released-node (is_held given inputs) inputs.site)) (inputs-few site given few)
+      subst (λ (n : NodeState). HaveCells config.cluster n.facts) (sym (released-node (is_held given inputs) inputs.site)) (inputs-few site given few)
 
   -- ---- serials
 
@@ -94,19 +105,19 @@ module _ (config : Config) where
       let rest = turns-sent ending (turn_of config site given).site more in
       omega (arith, first, rest)
 
-  end-few : (ending : Ending) (site : Site) → cells_used site.node.facts ≤ config.cluster.cells → cells_used (ending_of config ending site).site.node.facts ≤ config.cluster.cells
-  end-few Ending.Whole site few = subst (λ (n : NodeState). cells_used n.facts ≤ config.cluster.cells) (sym (out-node site)) few
-  end-few (Ending.Short None n) site few = subst (λ (n : NodeState). cells_used n.facts ≤ config.cluster.cells) (sym (out-node (with_few n site))) few
+  end-few : (ending : Ending) (site : Site) → HaveCells config.cluster site.node.facts → HaveCells config.cluster (ending_of config ending site).site.node.facts
+  end-few Ending.Whole site few = subst (λ (n : NodeState). HaveCells config.cluster n.facts) (sym (out-node site)) few
+  end-few (Ending.Short None n) site few = subst (λ (n : NodeState). HaveCells config.cluster n.facts) (sym (out-node (with_few n site))) few
   end-few (Ending.Short (Some given) n) site few =
-      subst (λ (n : NodeState). cells_used n.facts ≤ config.cluster.cells) (sym (out-node (with_few n (inputs_taken config site given).site))) (inputs-few site given few)
+      subst (λ (n : NodeState). HaveCells config.cluster n.facts) (sym (out-node (with_few n (inputs_taken config site given).site))) (inputs-few site given few)
 
   -- ---- the limits
 
   module _ (right : IsConfig config) where
-    room : (site : Site) → cells_used site.node.facts ≤ config.cluster.cells → (sent : site.sent < 2 ^ 32) → IsWithinLimits (record { left = []; site_then = site })
-    room site few sent = let most = right.cells in record { serials = sent; room = few-celled site.node.facts (omega (arith, few, most)) }
+    room : (site : Site) → HaveCells config.cluster site.node.facts → (sent : site.sent < 2 ^ 32) → IsWithinLimits (record { left = []; site_then = site })
+    room site few sent = let most = right.cells in let cells = few.1 in record { serials = sent; room = few-celled site.node.facts (omega (arith, cells, most)) }
 
-    within-turns : (ending : Ending) (site : Site) (given : List Given) → cells_used site.node.facts ≤ config.cluster.cells → (ending_of config ending (turns_alone config site given).site).site.sent < 2 ^ 32
+    within-turns : (ending : Ending) (site : Site) (given : List Given) → HaveCells config.cluster site.node.facts → (ending_of config ending (turns_alone config site given).site).site.sent < 2 ^ 32
         → IsWithinTurns config site given ending
     within-turns ending site [] few sent =
         let w = room (ending_of config ending site).site (end-few ending site few) sent in
@@ -119,19 +130,22 @@ module _ (config : Config) where
 
 -- ---- a boot
 
-booted-few : (cluster : Cluster) (facts : List Fact) → is_ok (booted_by cluster (Ok facts)) ≡ true → cells_used (next_boot facts ∷ facts) ≤ cluster.cells
-booted-few cluster facts ok =
+booted-few : (cluster : Cluster) (facts : List Fact) → has_floor facts ≡ false → is_ok (booted_by cluster (Ok facts)) ≡ true → HaveCells cluster (next_boot facts ∷ facts)
+booted-few cluster facts plain ok =
     elim (cases_Bool (nat_le (2 ^ 32 - 1) (epoch_of facts))) [
       | inl e ↦ let bad : false ≡ true = rw e at ok in absurd (cc)
       | inr e ↦ elim (cases_Bool (is_past_cells cluster facts (next_boot facts))) [
         | inl f ↦ let bad : false ≡ true = rw (e, f) at ok in absurd (cc)
-        | inr f ↦ let low = ltb-false cluster.cells (cells_used facts + cells_needed (next_boot facts)) f in omega (arith, low)
+        | inr f ↦
+            let low = ltb-false cluster.cells (cells_held facts + cells_needed (next_boot facts)) f in
+            let same : cells_held facts ≡ cells_used facts = cells_plain facts plain in
+            (no_floor_more (next_boot facts) facts refl plain, omega (arith, low, same))
       ]
     ]
 
-pub life-within : (config : Config) → IsConfig config → (life : Life) → (s : Serves config life) → IsLife config (log_before life) s.given s.ending
-life-within config right life s =
-    let few = booted-few config.cluster life.log s.boots in
+pub life-within : (config : Config) → IsConfig config → (life : Life) → has_floor life.log ≡ false → (s : Serves config life) → IsLife config (log_before life) s.given s.ending
+life-within config right life plain s =
+    let few = booted-few config.cluster life.log plain s.boots in
     let first : Site = site_of (log_before life) in
     record {
       bytes = s.bytes;

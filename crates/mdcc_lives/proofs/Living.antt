@@ -4,16 +4,25 @@ use Rattle.std.specs.Prelude.{is_ok}
 use Rattle.std.proofs.lemmas.Bool.{cases_Bool, eq-eqb, eqb-true}
 use Rattle.mdcc_config.specs.IsConfig.{IsConfig}
 use Rattle.mdcc_config.specs.declared.config.Config.{Config}
+use Rattle.mdcc_ledger.specs.AllowedLedgers.{IsAllowed}
+use Rattle.mdcc_ledger.specs.Ledger.{Added, Entry, Valued, facts_of}
 use Rattle.mdcc_messages.specs.declared.facts.Fact.{Fact}
+use Rattle.mdcc_option.specs.declared.cluster.Cluster.{Cluster}
+use Rattle.mdcc_protocol.proofs.Plain.{no_floor_more}
+use Rattle.mdcc_protocol.specs.Facts.{has_floor}
 use Rattle.mdcc_rules.specs.Boot.{booted_by}
 use Rattle.mdcc_rules.specs.declared.node.BootFault.{BootFault}
 use Rattle.mdcc_runs.specs.Acts.{Act, appended_by, but_answer, but_answers}
 use Rattle.mdcc_runs.specs.Servers.{Log}
+use Rattle.mdcc_trace_states.proofs.Tests.{add-test}
 use Rattle.mdcc_trace_states.specs.Words.{In}
-use Rattle.mdcc_groups.specs.Groups.{facts_onto}
+use Rattle.mdcc_groups.specs.Groups.{added_in, facts_onto}
+use Rattle.mdcc_steps.proofs.Unfloored.{allowed-not-floor}
 use Rattle.mdcc_clusters.specs.Clusters.{in_flight, log_of}
 use Rattle.mdcc_clusters.specs.Executions.{WasSent}
 use Rattle.mdcc_clusters.specs.Traces.{IsLife, IsTrace, LifeEvent, MayDoNext, MayOccur, MayReceive, Traced, acts_to, after_begin_at, after_end_at, after_event, after_events, after_next_at, life_of, nothing_yet, with_left}
+use Rattle.mdcc_clusters.proofs.Standing.{log-facts}
+use Rattle.mdcc_clusters.proofs.TraceHeadline.{trace-headline}
 use Rattle.mdcc_clusters.proofs.Tracing.{traces-executed}
 use Rattle.mdcc_lives.proofs.Bounds.{life-within}
 use Rattle.mdcc_lives.specs.Lives.{Life, MayKeep, Serves, log_after, log_before, onto}
@@ -40,6 +49,27 @@ log-onto a (fact ∷ facts) durable = log-onto a facts ((a, fact) ∷ durable) �
 pub log-others : (a b : ℕ) (facts : List Fact) (durable : List (ℕ × Fact)) → (a == b) ≡ false → log_of (facts_onto a facts durable) b ≡ log_of durable b
 log-others a b [] durable o = refl
 log-others a b (fact ∷ facts) durable o = log-others a b facts ((a, fact) ∷ durable) o ∙ log-other a b fact durable o
+
+-- ---- floors
+
+-- no fact of an allowed ledger is a floor
+legal-plain : (cluster : Cluster) (es : List Entry) (a : ℕ) → IsAllowed cluster es → has_floor (facts_of es a) ≡ false
+legal-plain cluster [] a h = refl
+legal-plain cluster (Entry.Begun b tx choices ∷ es) a h = legal-plain cluster es a h.0
+legal-plain cluster (Valued b key version ballot options ∷ es) a h = legal-plain cluster es a h.0
+legal-plain cluster (Added b fact ∷ es) a h =
+    elim (cases_Bool (b == a)) [
+      | inl e ↦ rw e (no_floor_more fact (facts_of es a) (allowed-not-floor cluster (facts_of es b) fact (add-test cluster (facts_of es b) fact h.1.1)) (legal-plain cluster es a h.0))
+      | inr e ↦ rw e (legal-plain cluster es a h.0)
+    ]
+
+-- so the logs of a trace have none
+logs-plain : (config : Config) → IsConfig config → (events : List LifeEvent) → IsTrace config nothing_yet events → (a : ℕ) → has_floor (log_of (after_events config nothing_yet events).durable a) ≡ false
+logs-plain config right events h a =
+    let found = trace-headline config right events h in
+    let logs : log_of (added_in found.ledger) a ≡ facts_of found.ledger a = log-facts found.ledger a in
+    subst (λ (durable : List (ℕ × Fact)). has_floor (log_of durable a) ≡ false) found.true_of.facts
+    (subst (λ (facts : List Fact). has_floor facts ≡ false) (sym logs) (legal-plain config.cluster found.ledger a found.true_of.sound.legal))
 
 -- ---- what the link answered
 
@@ -215,7 +245,7 @@ module _ (config : Config) (present : Present) (trace : Traced) (f : Follows pre
 
 -- ---- a start
 
-module _ (config : Config) (right : IsConfig config) (present : Present) (trace : Traced) (f : Follows present trace) (life : Life) (begins : MayBegin config present life) where
+module _ (config : Config) (right : IsConfig config) (present : Present) (trace : Traced) (f : Follows present trace) (life : Life) (plain : has_floor (log_of trace.durable life.centre) ≡ false) (begins : MayBegin config present life) where
   abbrev a : ℕ
   a = life.centre
 
@@ -239,7 +269,7 @@ module _ (config : Config) (right : IsConfig config) (present : Present) (trace 
       let begun : after_begin_at config trace a s.given s.ending None ≡ with_left trace a (life_of config a log s.given s.ending (booted_by config.cluster (Ok log))) = rw begins.is.centre refl in
       record {
         events = LifeEvent.Starts a s.given s.ending ∷ [];
-        traced = (subst (λ (z : Log). IsLife config z s.given s.ending) same (life-within config right life s), tt);
+        traced = (subst (λ (z : Log). IsLife config z s.given s.ending) same (life-within config right life (subst (λ (facts : List Fact). has_floor facts ≡ false) (sym log-is) plain) s), tt);
         follows = subst (Follows (with_life present.done present a first life.log))
             (sym (ap (after_begin_at config trace a s.given s.ending) nobody ∙ (begun ∙ ap (λ (r : Result (List Fact) BootFault). with_left trace a (life_of config a log s.given s.ending r)) e)))
             (follows-with present trace a present.done trace.done trace.durable first life.log (Some (acts_to config (record { centre = a; facts = log }) s.given s.ending)) f f.done log-is (λ b o. refl)
@@ -267,16 +297,22 @@ traced-more : (config : Config) (trace : Traced) (xs ys : List LifeEvent) → Is
 traced-more config trace [] ys h k = k
 traced-more config trace (x ∷ xs) ys h k = (h.0, traced-more config (after_event config trace x) xs ys h.1 k)
 
-step-goes : (config : Config) → IsConfig config → (present : Present) (trace : Traced) (step : Step) → Follows present trace → MayBeNext config present step → Goes config trace (after_step present step)
-step-goes config right present trace (Step.Begins life) f h = begins-goes config right present trace f life h
-step-goes config right present trace (Step.Does a) f h = does-goes config present trace f a (present.now a) h (f.each a)
-step-goes config right present trace (Step.Ends a) f h = ends-goes config present trace f a (present.now a) h (f.each a)
+step-goes : (config : Config) → IsConfig config → (present : Present) (trace : Traced) (step : Step) → ((a : ℕ) → has_floor (log_of trace.durable a) ≡ false) → Follows present trace → MayBeNext config present step
+    → Goes config trace (after_step present step)
+step-goes config right present trace (Step.Begins life) plain f h = begins-goes config right present trace f life (plain life.centre) h
+step-goes config right present trace (Step.Does a) plain f h = does-goes config present trace f a (present.now a) h (f.each a)
+step-goes config right present trace (Step.Ends a) plain f h = ends-goes config present trace f a (present.now a) h (f.each a)
 
-steps-go : (config : Config) → IsConfig config → (present : Present) (trace : Traced) (steps : List Step) → Follows present trace → IsHistory config present steps → Goes config trace (after_steps present steps)
-steps-go config right present trace [] f h = record { events = []; traced = tt; follows = f }
-steps-go config right present trace (step ∷ steps) f h =
-    let one = step-goes config right present trace step f h.0 in
-    let more = steps-go config right (after_step present step) (after_events config trace one.events) steps one.follows h.1 in
+-- after the events so far
+steps-go : (config : Config) → IsConfig config → (present : Present) (before : List LifeEvent) → IsTrace config nothing_yet before → (steps : List Step) → Follows present (after_events config nothing_yet before)
+    → IsHistory config present steps → Goes config (after_events config nothing_yet before) (after_steps present steps)
+steps-go config right present before b [] f h = record { events = []; traced = tt; follows = f }
+steps-go config right present before b (step ∷ steps) f h =
+    let trace : Traced = after_events config nothing_yet before in
+    let one = step-goes config right present trace step (logs-plain config right before b) f h.0 in
+    let joined : after_events config nothing_yet (before ++ one.events) ≡ after_events config trace one.events = trace-more config nothing_yet before one.events in
+    let more = subst (λ (z : Traced). Goes config z (after_steps (after_step present step) steps)) joined
+    (steps-go config right (after_step present step) (before ++ one.events) (traced-more config nothing_yet before one.events b one.traced) steps (subst (Follows (after_step present step)) (sym joined) one.follows) h.1) in
     record {
       events = one.events ++ more.events;
       traced = traced-more config trace one.events more.events one.traced more.traced;
@@ -285,7 +321,7 @@ steps-go config right present trace (step ∷ steps) f h =
 
 pub histories-executed : HistoriesAreExecutions
 histories-executed config right steps h =
-    let g = steps-go config right at_first nothing_yet steps (record { done = refl; logs = λ a. refl; each = λ a. refl }) h in
+    let g = steps-go config right at_first [] tt steps (record { done = refl; logs = λ a. refl; each = λ a. refl }) h in
     let x = traces-executed config g.events g.traced in
     record {
       moves = x.moves;

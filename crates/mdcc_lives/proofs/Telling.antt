@@ -1,18 +1,15 @@
 -- The headline for histories.
-use Rattle.std.proofs.Common.{List, arith, length, subst, sym, ℕ, ◌*◌, ◌+◌, ◌-◌, ◌^◌, ◌≤◌}
-use Rattle.std.proofs.lemmas.Nat.{mul-le}
+use Rattle.std.proofs.Common.{List, arith, subst, sym, ℕ}
 use Rattle.mdcc_config.specs.IsConfig.{IsConfig}
 use Rattle.mdcc_config.specs.declared.config.Config.{Config}
 use Rattle.mdcc_headline.proofs.Lines.{lines-told}
 use Rattle.mdcc_headline.proofs.Reported.{all-whole}
 use Rattle.mdcc_history.proofs.CommitsRun.{commits_run}
-use Rattle.mdcc_ledger.specs.Ledger.{Entry}
 use Rattle.mdcc_messages.specs.declared.facts.Fact.{Fact}
 use Rattle.mdcc_protocol.specs.IsCluster.{IsCluster}
 use Rattle.mdcc_runs.specs.Acts.{Act}
 use Rattle.mdcc_clusters.specs.Clusters.{Deployment, after_moves, not_started}
 use Rattle.mdcc_clusters.specs.Headline.{IsToldTruly, LedgerLaws}
-use Rattle.mdcc_clusters.specs.Limits.{IsShort, most_beside, most_of_step, steps_done}
 use Rattle.mdcc_clusters.proofs.Discharged.{deployed}
 use Rattle.mdcc_clusters.proofs.Headline.{tells}
 use Rattle.mdcc_lives.specs.Histories.{Present, after_steps, at_first, but_all_answers}
@@ -27,16 +24,6 @@ ledger-laws = record {
   told = λ cluster ledger h lines o. lines-told cluster ledger h lines o;
 }
 
-few-entries : (l d p : ℕ) → l ≤ d + p → d ≤ 2 ^ 62 → p ≤ 1073741824 * 8589936640 → l ≤ 2 ^ 64 - 1
-few-entries l d p h k m = omega (arith, h, k, m)
-
--- few steps and facts make few entries
-short-ledger : (done : List (ℕ × Act)) (durable : List (ℕ × Fact)) (ledger : List Entry) → IsShort done durable → length ledger ≤ length durable + most_beside (steps_done done) → length ledger ≤ 2 ^ 64 - 1
-short-ledger done durable ledger short few =
-    let steps = short.steps in
-    let most = mul-le (steps_done done) (most_of_step (steps_done done)) 1073741824 8589936640 (omega (arith, steps)) (omega (arith, steps)) in
-    few-entries (length ledger) (length durable) (most_beside (steps_done done)) few short.facts most
-
 -- it is so whatever the link answered
 told-back : (config : Config) → IsConfig config → (done : List (ℕ × Act)) (durable : List (ℕ × Fact)) → IsToldTruly config (but_all_answers done) durable → IsToldTruly config done durable
 told-back config is done durable h =
@@ -47,7 +34,7 @@ told-back config is done durable h =
       true_of = true_of;
       asked_for = asked-back config done h.ledger h.asked_for;
       headline = λ short.
-          tells ledger-laws config h.ledger (record { of_cluster = cluster; allowed = true_of.sound.legal; short = short-ledger done durable h.ledger short true_of.few }) done durable true_of;
+          tells ledger-laws config h.ledger (record { of_cluster = cluster; allowed = true_of.sound.legal; few = omega (arith, short.steps, true_of.begun) }) done durable true_of;
     }
 
 pub histories-told : HeadlineOfHistories

@@ -30,7 +30,8 @@ use Rattle.mdcc_logs.specs.Tails.{HasTail, tail_at}
 use Rattle.mdcc_logs.specs.declared.logs.Logs.{Logs}
 use Rattle.mdcc_option.specs.declared.cluster.Cluster.{Cluster}
 use Rattle.mdcc_messages.specs.Lengths.{cells_needed, cells_used, log_length}
-use Rattle.mdcc_protocol.specs.Facts.{epoch_of}
+use Rattle.mdcc_protocol.specs.Facts.{epoch_of, has_floor}
+use Rattle.mdcc_protocol.proofs.Plain.{cells_plain}
 use Rattle.mdcc_protocol.specs.Volatile.{initial_volatile}
 use Rattle.mdcc_messages.specs.Spelling.{fact_bytes, encodings_of}
 use Rattle.mdcc_messages.specs.declared.facts.Fact.{Fact}
@@ -42,6 +43,7 @@ use Rattle.mdcc_rules.specs.Boot.{booted_by, next_boot}
 use Rattle.mdcc_rules.specs.declared.node.BootFault.{BootFault}
 use Rattle.mdcc_steps.proofs.Booting.{boot-reads}
 use Rattle.mdcc_steps.proofs.Each.{each-append}
+use Rattle.mdcc_steps.proofs.Unfloored.{allowed-unfloored, fit-plain}
 use Rattle.mdcc_steps.specs.NodeInvariant.{payloads_of}
 use Rattle.mdcc_simulation.specs.Checkpoints.{checkpoint_every, tail_after}
 
@@ -66,15 +68,18 @@ each-few (fact ∷ facts) all h few =
     first a b c h few = omega (h, few, arith)
 
 module _ (cluster : Cluster) (facts : List Fact) (are : AreLogged cluster facts) (few : cluster.cells < 2 ^ 63) (fits : cells_used facts ≤ cluster.cells) (early : epoch_of facts < 2 ^ 32 - 1) where
+  unfloored : has_floor facts ≡ false
+  unfloored = allowed-unfloored cluster facts are.allowed
+
   -- a boot over them is the definition's
   over-cells : booted_over (cells_of cluster) cluster facts ≡ booted_by cluster (Ok facts)
   over-cells =
       counted_boots (cells_of cluster) cluster (payloads_of facts) refl (λ fact. refl) few (each-few facts cluster.cells fits few)
-      ∙ boot-reads cluster facts are.allowed fits
+      ∙ boot-reads cluster facts are.allowed (fit-plain cluster facts unfloored fits)
 
   boot-over : booted_over (cells_of cluster) cluster facts
       ≡ (if nat_lt cluster.cells (cells_with_boot facts) then Err (BootFault.Room (cells_with_boot facts) cluster.cells) else Ok (next_boot facts ∷ facts))
-  boot-over = let left : nat_le (2 ^ 32 - 1) (epoch_of facts) ≡ false = lt-leb (2 ^ 32 - 1) (epoch_of facts) early in over-cells ∙ rw left refl
+  boot-over = let left : nat_le (2 ^ 32 - 1) (epoch_of facts) ≡ false = lt-leb (2 ^ 32 - 1) (epoch_of facts) early in over-cells ∙ rw (left, cells_plain facts unfloored) refl
 
   fits-by : (past : Bool) → (past ≡ false → cells_with_boot facts ≤ cluster.cells) → (all : List Fact)
       → (if past then Err (BootFault.Room (cells_with_boot facts) cluster.cells) else Ok (next_boot facts ∷ facts)) ≡ Ok all → cells_with_boot facts ≤ cluster.cells

@@ -121,6 +121,8 @@ body_length (messages.SyncGive key version item adds) = given_length key item ad
 body_length (messages.ClientRead serial key) = 4 + key_length key
 body_length (messages.ClientBegin serial parts) = 5 + sum_over part_length parts
 body_length (messages.ClientAnswer serial answer) = 4 + answer_length answer
+body_length (messages.Mark centre epoch seq) = 9
+body_length (messages.Finished tx) = 9
 
 abbrev pub message_length : Envelope → ℕ
 message_length envelope = 4 + body_length envelope.message
@@ -138,6 +140,7 @@ fact_length (facts.Voted key version ballot options offered) =
     18 + key_length key + options_length options + offered_length offered
 fact_length (facts.Heard tx outcome) = 1 + heard_length outcome
 fact_length (facts.Adopted key version item adds) = 1 + given_length key item adds
+fact_length (facts.Floor centre epoch seq) = 10
 
 -- how many cells of a node's store a fact takes, at 60 bytes a cell
 abbrev pub cells_needed : Fact → ℕ

@@ -140,6 +140,24 @@ client_answer_at bytes at = do
   answer ← answer_at bytes serial.1
   Ok (messages.ClientAnswer serial.0 answer.0, answer.1)
 
+-- a centre, an epoch and a number of a transaction, each from 1 on
+abbrev pub numbers_at : List ℕ → ℕ → Result ((ℕ × ℕ × ℕ) × ℕ) WireFault
+numbers_at bytes at = do
+  centre ← u8_within at 1 9 bytes at
+  epoch ← u32_within centre.1 1 (2 ^ 32 - 1) bytes centre.1
+  seq ← u32_within epoch.1 1 (2 ^ 32 - 1) bytes epoch.1
+  Ok ((centre.0, epoch.0, seq.0), seq.1)
+
+abbrev pub mark_at : List ℕ → ℕ → Result (Message × ℕ) WireFault
+mark_at bytes at = do
+  numbers ← numbers_at bytes at
+  Ok (messages.Mark numbers.0.0 numbers.0.1 numbers.0.2, numbers.1)
+
+abbrev pub finished_at : List ℕ → ℕ → Result (Message × ℕ) WireFault
+finished_at bytes at = do
+  tx ← tx_at bytes at
+  Ok (messages.Finished tx.0, tx.1)
+
 -- the body of a message of this kind
 abbrev pub body_at : ℕ → List ℕ → ℕ → Result (Message × ℕ) WireFault
 body_at kind bytes at =
@@ -157,11 +175,17 @@ body_at kind bytes at =
     else (if kind == 12 then sync_give_at bytes at
     else (if kind == 13 then client_read_at bytes at
     else (if kind == 14 then client_begin_at bytes at
-    else client_answer_at bytes at)))))))))))))
+    else (if kind == 15 then client_answer_at bytes at
+    else (if kind == 16 then mark_at bytes at
+    else finished_at bytes at)))))))))))))))
 
 -- the format or the kind is a known one
-abbrev pub known : ℕ → ℕ → Option WireFault
-known highest n = if is_in_range 1 highest n then None else Some Kind
+abbrev pub known : ℕ → ℕ → ℕ → Option WireFault
+known lowest highest n = if is_in_range lowest highest n then None else Some Kind
+
+-- the kinds of a format: the first one has those from 1 to 15, the second one those after them
+abbrev pub known_in : ℕ → ℕ → Option WireFault
+known_in format n = if format == 1 then known 1 15 n else known 16 17 n
 
 abbrev pub endpoint : ℕ → ℕ → Option WireFault
 endpoint place n = if is_endpoint n then None else Some (Range place)
@@ -173,8 +197,8 @@ whole bytes read = if read.1 == length bytes then Ok read.0 else Err (Trailing r
 -- the message that the bytes spell, or the first place that is not of the grammar
 abbrev pub view_of : List ℕ → Result Envelope WireFault
 view_of bytes = do
-  format ← checked (known 1) (u8_at bytes 0)
-  kind ← checked (known 15) (u8_at bytes format.1)
+  format ← checked (known 1 2) (u8_at bytes 0)
+  kind ← checked (known_in format.0) (u8_at bytes format.1)
   from ← checked (endpoint kind.1) (u8_at bytes kind.1)
   to ← checked (endpoint from.1) (u8_at bytes from.1)
   message ← body_at kind.0 bytes to.1
@@ -223,17 +247,23 @@ adopted_at bytes at = do
   given ← given_at bytes at
   Ok (facts.Adopted given.0.0 given.0.1 given.0.2 given.0.3, given.1)
 
+abbrev pub floor_at : List ℕ → ℕ → Result (Fact × ℕ) WireFault
+floor_at bytes at = do
+  numbers ← numbers_at bytes at
+  Ok (facts.Floor numbers.0.0 numbers.0.1 numbers.0.2, numbers.1)
+
 abbrev pub fact_at : ℕ → List ℕ → ℕ → Result (Fact × ℕ) WireFault
 fact_at kind bytes at =
     if kind == 1 then booted_at bytes at
     else (if kind == 2 then promised_at bytes at
     else (if kind == 3 then vote_at bytes at
     else (if kind == 4 then heard_fact_at bytes at
-    else adopted_at bytes at)))
+    else (if kind == 5 then adopted_at bytes at
+    else floor_at bytes at))))
 
 -- the fact that the bytes spell, or the first place that is not of the grammar
 abbrev pub fact_of : List ℕ → Result Fact WireFault
 fact_of bytes = do
-  kind ← checked (known 5) (u8_at bytes 0)
+  kind ← checked (known 1 6) (u8_at bytes 0)
   fact ← fact_at kind.0 bytes kind.1
   whole bytes fact

@@ -29,6 +29,14 @@ kind_of (messages.SyncGive key version item adds) = 12
 kind_of (messages.ClientRead serial key) = 13
 kind_of (messages.ClientBegin serial parts) = 14
 kind_of (messages.ClientAnswer serial answer) = 15
+kind_of (messages.Mark centre epoch seq) = 16
+kind_of (messages.Finished tx) = 17
+
+-- the number of the format that has the kind: the second one has the kinds from 16 on
+abbrev pub format_of : Message → ℕ
+format_of (messages.Mark centre epoch seq) = 2
+format_of (messages.Finished tx) = 2
+format_of message = 1
 
 -- what follows the kind and the endpoints
 abbrev pub body_bytes : Message → List ℕ
@@ -53,11 +61,13 @@ body_bytes (messages.SyncGive key version item adds) = given_bytes key version i
 body_bytes (messages.ClientRead serial key) = u32_bytes serial ++ key_bytes key
 body_bytes (messages.ClientBegin serial parts) = u32_bytes serial ++ counted part_bytes parts
 body_bytes (messages.ClientAnswer serial answer) = u32_bytes serial ++ answer_bytes answer
+body_bytes (messages.Mark centre epoch seq) = u8_bytes centre ++ u32_bytes epoch ++ u32_bytes seq
+body_bytes (messages.Finished tx) = tx_bytes tx
 
 -- the number of the format, the kind, from whom, to whom, the body
 abbrev pub message_bytes : Envelope → List ℕ
 message_bytes envelope =
-    u8_bytes 1 ++ u8_bytes (kind_of envelope.message) ++ u8_bytes envelope.from ++ u8_bytes envelope.to
+    u8_bytes (format_of envelope.message) ++ u8_bytes (kind_of envelope.message) ++ u8_bytes envelope.from ++ u8_bytes envelope.to
     ++ body_bytes envelope.message
 
 -- ---- facts
@@ -76,6 +86,7 @@ fact_bytes (facts.Voted key version ballot options offered) =
     ++ options_bytes options ++ offered_bytes offered
 fact_bytes (facts.Heard tx outcome) = u8_bytes 4 ++ heard_bytes tx outcome
 fact_bytes (facts.Adopted key version item adds) = u8_bytes 5 ++ given_bytes key version item adds
+fact_bytes (facts.Floor centre epoch seq) = u8_bytes 6 ++ u8_bytes centre ++ u32_bytes epoch ++ u32_bytes seq
 
 -- the encodings of facts, the oldest first
 abbrev pub encodings_of : List Fact → List (List ℕ)

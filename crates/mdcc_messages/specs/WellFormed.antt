@@ -169,6 +169,8 @@ IsWellFormedMessage (messages.SyncGive key version item adds) = IsWellFormedGive
 IsWellFormedMessage (messages.ClientRead serial key) = (serial < 2 ^ 32) × IsKey key
 IsWellFormedMessage (messages.ClientBegin serial parts) = IsWellFormedBegin serial parts
 IsWellFormedMessage (messages.ClientAnswer serial answer) = (serial < 2 ^ 32) × IsWellFormedAnswer answer
+IsWellFormedMessage (messages.Mark centre epoch seq) = IsWellFormedTx (record { centre = centre; epoch = epoch; seq = seq })
+IsWellFormedMessage (messages.Finished tx) = IsWellFormedTx tx
 
 abbrev pub is_well_formed_message : Message → Bool
 is_well_formed_message (messages.Propose choice) = is_well_formed_choice choice
@@ -187,6 +189,8 @@ is_well_formed_message (messages.SyncGive key version item adds) = is_well_forme
 is_well_formed_message (messages.ClientRead serial key) = is_u32 serial && is_well_formed_key key
 is_well_formed_message (messages.ClientBegin serial parts) = is_well_formed_begin serial parts
 is_well_formed_message (messages.ClientAnswer serial answer) = is_u32 serial && is_well_formed_answer answer
+is_well_formed_message (messages.Mark centre epoch seq) = is_well_formed_tx (record { centre = centre; epoch = epoch; seq = seq })
+is_well_formed_message (messages.Finished tx) = is_well_formed_tx tx
 
 -- the number of a centre, or 16 more for its client
 abbrev pub IsEndpoint : ℕ → Type 0
@@ -250,6 +254,7 @@ IsWellFormedFact (facts.Promised key low high ballot) = IsWellFormedPromised key
 IsWellFormedFact (facts.Voted key version ballot options offered) = IsWellFormedVote key version ballot options offered
 IsWellFormedFact (facts.Heard tx outcome) = IsWellFormedHeard tx outcome
 IsWellFormedFact (facts.Adopted key version item adds) = IsWellFormedGiven key version item adds
+IsWellFormedFact (facts.Floor centre epoch seq) = IsWellFormedTx (record { centre = centre; epoch = epoch; seq = seq })
 
 abbrev pub is_well_formed_fact : Fact → Bool
 is_well_formed_fact (facts.Booted epoch) = is_in_range 1 (2 ^ 32 - 1) epoch
@@ -257,3 +262,4 @@ is_well_formed_fact (facts.Promised key low high ballot) = is_well_formed_promis
 is_well_formed_fact (facts.Voted key version ballot options offered) = is_well_formed_vote key version ballot options offered
 is_well_formed_fact (facts.Heard tx outcome) = is_well_formed_heard tx outcome
 is_well_formed_fact (facts.Adopted key version item adds) = is_well_formed_given key version item adds
+is_well_formed_fact (facts.Floor centre epoch seq) = is_well_formed_tx (record { centre = centre; epoch = epoch; seq = seq })

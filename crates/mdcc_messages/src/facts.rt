@@ -1,5 +1,5 @@
 //! What a centre writes into its log, and keeps.
-use mdcc_base::{Ballot, HeapList, Key, TxId};
+use mdcc_base::{Ballot, Centre, HeapList, Key, TxId};
 use mdcc_option::{Choice, Delta, Item, Outcome};
 use mdcc_struct::Options;
 
@@ -36,5 +36,12 @@ pub enum Fact {
         version: u64,
         item: Item,
         adds: HeapList<Delta>,
+    },
+    /// All centres have heard the transactions that this centre began in this epoch, from the first
+    /// through the one of this number.
+    Floor {
+        centre: Centre,
+        epoch: u32,
+        seq: u32,
     },
 }

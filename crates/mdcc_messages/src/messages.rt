@@ -1,5 +1,5 @@
 //! The messages between centres, and between a node and its client.
-use mdcc_base::{Ballot, BoundedList, HeapList, Key, TxId};
+use mdcc_base::{Ballot, BoundedList, Centre, HeapList, Key, TxId};
 use mdcc_option::{BeginFault, Cause, Choice, Delta, DraftFault, Item, Mark, Outcome, Part, Token};
 use mdcc_struct::Options;
 
@@ -110,6 +110,15 @@ pub enum Message {
         serial: u32,
         answer: ClientAnswer,
     },
+    /// The sender has heard the transactions that this centre began in this epoch, from the first
+    /// through the one of this number.
+    Mark {
+        centre: Centre,
+        epoch: u32,
+        seq: u32,
+    },
+    /// All centres have heard how the transaction ended.
+    Finished(TxId),
 }
 
 /// A message with the endpoints between which it goes: a centre's number, or 16 more for its client.

@@ -1,5 +1,5 @@
 -- A rule that adds a fact changes nothing but what the fact ends, and the fact may be added.
-use Rattle.std.proofs.Common.{◌≡◌, ap, ℕ, Bool, true, false, List, [], ◌∷◌, Option, Some, None, Ok, Err, Result, refl, if◌then◌else◌, not, is_some, ◌+◌, ◌++◌, append_assoc, append-nil, drop, fold, get_or, length, ◌<◌}
+use Rattle.std.proofs.Common.{◌≡◌, ap, ℕ, Bool, true, false, List, [], ◌∷◌, Option, Some, None, Ok, Err, Result, refl, if◌then◌else◌, not, is_some, ◌||◌, ◌+◌, ◌++◌, append_assoc, append-nil, drop, fold, get_or, length, ◌<◌}
 use Rattle.std.proofs.lemmas.Option.{slice_get-get_or}
 use Rattle.std.specs.List.{filter, list_any}
 use Rattle.std.specs.Prelude.{OnOk, option_map, slice_get}
@@ -12,13 +12,13 @@ use Rattle.mdcc_base.specs.declared.key.Key.{Key}
 use Rattle.mdcc_messages.specs.declared.facts.Fact.{Fact}
 use Rattle.mdcc_messages.specs.declared.messages.Envelope.{Envelope}
 use Rattle.mdcc_messages.specs.declared.messages.Message.{Message}
-use Rattle.mdcc_node.specs.StepPlans.{MayFollow, kept_by, planned, unheard_sent}
+use Rattle.mdcc_node.specs.StepPlans.{MayFollow, kept_by, planned, unsettled_sent}
 use Rattle.mdcc_option.specs.declared.choices.Choice.{Choice}
 use Rattle.mdcc_option.specs.declared.choices.Mark.{Mark}
 use Rattle.mdcc_option.specs.declared.choices.Outcome.{Outcome}
 use Rattle.mdcc_option.specs.declared.cluster.Cluster.{Cluster}
 use Rattle.mdcc_protocol.specs.Acceptor.{on_accept, on_propose, promise_answer, range_end}
-use Rattle.mdcc_protocol.specs.Facts.{heard_of, is_heard, promise_of, promised_through, vote_of, votes_of}
+use Rattle.mdcc_protocol.specs.Facts.{is_finished, is_heard, is_settled, outcome_kept, promise_of, promised_through, vote_of, votes_of}
 use Rattle.mdcc_protocol.specs.Leader.{claim_of_choice, on_promise}
 use Rattle.mdcc_protocol.specs.Learner.{decision_of}
 use Rattle.mdcc_protocol.specs.Manager
@@ -33,17 +33,18 @@ use Rattle.mdcc_protocol.specs.declared.leader.Promise.{Promise}
 use Rattle.mdcc_protocol.specs.declared.manager.ManagerAct.{ManagerAct}
 use Rattle.mdcc_protocol.specs.declared.visible.Give.{Give}
 use Rattle.mdcc_protocol.specs.declared.votes.Vote.{Vote}
-use Rattle.mdcc_rules.specs.AcceptorRules.{accept_step, accepted_step, all_votes_sent, ask_step, ask_step_by, prepare_step, prepared_step, propose_step, proposed_step, votes_sent}
-use Rattle.mdcc_rules.specs.LeaderRules.{lead_step_after, led_of, promised_by_answer, step_of_led}
+use Rattle.mdcc_rules.specs.AcceptorRules.{accept_step, accepted_step, all_votes_sent, ask_step, ask_step_after, ask_step_by, prepare_step, prepared_step, propose_step, proposed_step, votes_sent}
+use Rattle.mdcc_rules.specs.Messages.{to_one}
+use Rattle.mdcc_rules.specs.LeaderRules.{lead_step, lead_step_after, led_of, promised_by_answer, step_of_led}
 use Rattle.mdcc_rules.specs.ManagerRules.{acted_step, opened_step, voted_step, watched_step}
 use Rattle.mdcc_rules.specs.Node.{message_step}
-use Rattle.mdcc_rules.specs.Steps.{NodeStep, StepPart, nothing_done}
+use Rattle.mdcc_rules.specs.Steps.{NodeStep, StepPart, nothing_done, sending}
 use Rattle.mdcc_rules.specs.SyncRules.{outcome_step, outcome_step_by, sync_give_step, sync_give_step_by}
 use Rattle.mdcc_rules.specs.declared.node.Step.{Step}
 use Rattle.mdcc_struct.specs.Maps.{value_of}
 use Rattle.mdcc_struct.specs.declared.options.Options.{Options}
 use Rattle.mdcc_struct.proofs.Walks.{drop-get}
-use Rattle.mdcc_node.proofs.Planned.{Ends, EndsIn}
+use Rattle.mdcc_node.proofs.Planned.{Ends, EndsIn, SendsAlone}
 use Rattle.mdcc_node.proofs.Unvoted.{new_vote}
 use Rattle.mdcc_rules.specs.Here.{here}
 
@@ -59,6 +60,7 @@ module _ (me : ℕ) (facts : List Fact) (volatile : Volatile) (s : ℕ) where
   proposed-adds : (cluster : Cluster) (choice : Choice) (answer : ProposeAnswer) → on_propose cluster facts choice ≡ answer
       → AddsAlone facts volatile (proposed_step me volatile s choice answer)
   proposed-adds cluster choice (ProposeAnswer.Known outcome) e = record { ends = tt; keeps = refl; follows = tt }
+  proposed-adds cluster choice ProposeAnswer.Finished e = record { ends = tt; keeps = refl; follows = tt }
   proposed-adds cluster choice (ProposeAnswer.Again ballot mark) e = record { ends = tt; keeps = refl; follows = tt }
   proposed-adds cluster choice (ProposeAnswer.Escalate cause) e = record { ends = tt; keeps = refl; follows = tt }
   proposed-adds cluster choice (ProposeAnswer.Vote mark) e = record { ends = refl; keeps = refl; follows = (new_vote cluster facts choice mark e, refl) }
@@ -70,7 +72,7 @@ module _ (me : ℕ) (facts : List Fact) (volatile : Volatile) (s : ℕ) where
       → AddsAlone facts volatile (prepared_step me facts volatile s key version ballot (promise_answer before new))
   promised-adds key version new ballot (Some high) e = record { ends = tt; keeps = refl; follows = tt }
   promised-adds key version new ballot None e =
-      record { ends = refl; keeps = refl; follows = (record { promised = rw e refl; voted = refl; heard = refl }, refl) }
+      record { ends = refl; keeps = refl; follows = (record { promised = rw e refl; voted = refl; heard = refl; no_floor = refl }, refl) }
 
   prepared-adds : (key : Key) (version through : ℕ) (ballot promise : Ballot) (low : Bool)
       → AddsAlone facts volatile (prepared_step me facts volatile s key version ballot
@@ -83,15 +85,17 @@ module _ (me : ℕ) (facts : List Fact) (volatile : Volatile) (s : ℕ) where
       prepared-adds key version through ballot (promise_of facts key version) (ballot_lt ballot (promise_of facts key version))
 
   -- none of the new marks was voted
-  none-by : (votes es : Options) (e : TxId × Mark) (voted : Bool) → is_some (value_of votes e.0) ≡ voted
-      → list_any (λ e. is_some (value_of votes e.0)) (filter (λ e. not (is_some (value_of votes e.0))) es) ≡ false
-      → list_any (λ e. is_some (value_of votes e.0)) (filter (λ e. not (is_some (value_of votes e.0))) (e ∷ es)) ≡ false
-  none-by votes es e true h rest = rw h rest
-  none-by votes es e false h rest = rw (h, h) rest
+  none-by : (votes es : Options) (e : TxId × Mark) (voted finished : Bool) → is_some (value_of votes e.0) ≡ voted → is_finished facts e.0 ≡ finished
+      → list_any (λ e. is_some (value_of votes e.0)) (filter (λ e. not (is_some (value_of votes e.0) || is_finished facts e.0)) es) ≡ false
+      → list_any (λ e. is_some (value_of votes e.0)) (filter (λ e. not (is_some (value_of votes e.0) || is_finished facts e.0)) (e ∷ es)) ≡ false
+  none-by votes es e true finished h f rest = rw h rest
+  none-by votes es e false true h f rest = rw (h, f) rest
+  none-by votes es e false false h f rest = rw (h, f, h) rest
 
-  none-voted : (votes options : Options) → list_any (λ e. is_some (value_of votes e.0)) (filter (λ e. not (is_some (value_of votes e.0))) options) ≡ false
+  none-voted : (votes options : Options)
+      → list_any (λ e. is_some (value_of votes e.0)) (filter (λ e. not (is_some (value_of votes e.0) || is_finished facts e.0)) options) ≡ false
   none-voted votes [] = refl
-  none-voted votes (e ∷ es) = none-by votes es e (is_some (value_of votes e.0)) refl (none-voted votes es)
+  none-voted votes (e ∷ es) = none-by votes es e (is_some (value_of votes e.0)) (is_finished facts e.0) refl refl (none-voted votes es)
 
   accepted-adds : (key : Key) (version : ℕ) (ballot : Ballot) (options : Options) (answer : AcceptAnswer)
       → AddsAlone facts volatile (accepted_step me facts volatile s key version ballot options answer)
@@ -101,44 +105,60 @@ module _ (me : ℕ) (facts : List Fact) (volatile : Volatile) (s : ℕ) where
   accepted-adds key version ballot options AcceptAnswer.Vote = record {
     ends = refl;
     keeps = refl;
-    follows = (record { promised = refl; voted = none-voted (votes_of facts key version ballot) options; heard = refl }, refl);
+    follows = (record { promised = refl; voted = none-voted (votes_of facts key version ballot) options; heard = refl; no_floor = refl }, refl);
   }
 
   pub accept-adds : (key : Key) (version : ℕ) (ballot : Ballot) (options : Options) → AddsAlone facts volatile (accept_step me facts volatile s key version ballot options)
   accept-adds key version ballot options = accepted-adds key version ballot options (on_accept facts key version ballot options)
 
-module _ (facts : List Fact) (volatile : Volatile) (tx : TxId) (outcome : Outcome) where
-  pub heard-follows : is_heard facts tx ≡ false → MayFollow facts (Some (Fact.Heard tx outcome))
-  heard-follows e = (record { promised = refl; voted = refl; heard = e }, refl)
+unheard : (heard finished : Bool) → (heard || finished) ≡ false → heard ≡ false
+unheard true finished e = absurd (cc)
+unheard false finished e = refl
 
-  outcome-by : (heard : Bool) → is_heard facts tx ≡ heard
-      → AddsAlone facts volatile (outcome_step_by volatile tx (if heard then None else Some (Fact.Heard tx outcome)))
+module _ (facts : List Fact) (volatile : Volatile) (tx : TxId) (outcome : Outcome) where
+  pub heard-follows : is_settled facts tx ≡ false → MayFollow facts (Some (Fact.Heard tx outcome))
+  heard-follows e = (record { promised = refl; voted = refl; heard = unheard (is_heard facts tx) (is_finished facts tx) e; no_floor = refl }, refl)
+
+  outcome-by : (settled : Bool) → is_settled facts tx ≡ settled
+      → AddsAlone facts volatile (outcome_step_by volatile tx (if settled then None else Some (Fact.Heard tx outcome)))
   outcome-by true e = record { ends = tt; keeps = refl; follows = tt }
   outcome-by false e = record { ends = refl; keeps = refl; follows = heard-follows e }
 
   pub outcome-adds : AddsAlone facts volatile (outcome_step facts volatile tx outcome)
-  outcome-adds = outcome-by (is_heard facts tx) refl
+  outcome-adds = outcome-by (is_settled facts tx) refl
 
 module _ (me : ℕ) (facts : List Fact) (volatile : Volatile) (s : ℕ) (tx : TxId) (key : Key) (version : ℕ) where
-  -- what is asked is answered by messages alone
-  asked-by : (heard : Option Outcome) (vote : Option (Ballot × Mark)) (sends : List Envelope)
-      → sends ≡ [] ++ (ask_step_by me volatile s tx key version heard vote).sends
-      → (record { fact = None; sends = sends; heard = None; answer = None }) ≡ planned (ask_step_by me volatile s tx key version heard vote)
-  asked-by (Some outcome) vote sends e = rw e refl
-  asked-by None (Some vote) sends e = rw e refl
-  asked-by None None sends e = rw e refl
+  -- the answer where no outcome is kept
+  abbrev unkept : Bool → Option (Ballot × Mark) → NodeStep
+  unkept finished vote = if finished then sending volatile (to_one me s (Message.Finished tx)) else ask_step_after me volatile s tx key version vote
 
-  asked-keeps : (heard : Option Outcome) (vote : Option (Ballot × Mark)) → AddsAlone facts volatile (ask_step_by me volatile s tx key version heard vote)
-  asked-keeps (Some outcome) vote = record { ends = tt; keeps = refl; follows = tt }
-  asked-keeps None (Some vote) = record { ends = tt; keeps = refl; follows = tt }
-  asked-keeps None None = record { ends = tt; keeps = refl; follows = tt }
+  -- what is asked is answered by messages alone
+  unkept-by : (finished : Bool) (vote : Option (Ballot × Mark)) (sends : List Envelope) → sends ≡ [] ++ (unkept finished vote).sends
+      → (record { fact = None; sends = sends; heard = None; answer = None }) ≡ planned (unkept finished vote)
+  unkept-by true vote sends e = rw e refl
+  unkept-by false (Some vote) sends e = rw e refl
+  unkept-by false None sends e = rw e refl
+
+  asked-by : (heard : Option Outcome) (sends : List Envelope) → sends ≡ [] ++ (ask_step_by me facts volatile s tx key version heard).sends
+      → (record { fact = None; sends = sends; heard = None; answer = None }) ≡ planned (ask_step_by me facts volatile s tx key version heard)
+  asked-by (Some outcome) sends e = rw e refl
+  asked-by None sends e = unkept-by (is_finished facts tx) (vote_of facts key version tx) sends e
+
+  unkept-keeps : (finished : Bool) (vote : Option (Ballot × Mark)) → AddsAlone facts volatile (unkept finished vote)
+  unkept-keeps true vote = record { ends = tt; keeps = refl; follows = tt }
+  unkept-keeps false (Some vote) = record { ends = tt; keeps = refl; follows = tt }
+  unkept-keeps false None = record { ends = tt; keeps = refl; follows = tt }
+
+  asked-keeps : (heard : Option Outcome) → AddsAlone facts volatile (ask_step_by me facts volatile s tx key version heard)
+  asked-keeps (Some outcome) = record { ends = tt; keeps = refl; follows = tt }
+  asked-keeps None = unkept-keeps (is_finished facts tx) (vote_of facts key version tx)
 
   pub asked-adds : AddsAlone facts volatile (ask_step me facts volatile s tx key version)
-  asked-adds = asked-keeps (heard_of facts tx) (vote_of facts key version tx)
+  asked-adds = asked-keeps (outcome_kept facts tx)
 
   asked-plan : (sends : List Envelope) → sends ≡ [] ++ (ask_step me facts volatile s tx key version).sends
       → (record { fact = None; sends = sends; heard = None; answer = None }) ≡ planned (ask_step me facts volatile s tx key version)
-  asked-plan = asked-by (heard_of facts tx) (vote_of facts key version tx)
+  asked-plan = asked-by (outcome_kept facts tx)
 
   pub asked-planned : (result : Result (Unit {0}) Memory) (sends : List Envelope)
       → OnOk result (sends ≡ [] ++ (ask_step me facts volatile s tx key version).sends)
@@ -149,7 +169,7 @@ module _ (me : ℕ) (facts : List Fact) (volatile : Volatile) (s : ℕ) (tx : Tx
 module _ (facts : List Fact) (volatile : Volatile) (give : Give) where
   adopted-by : (news : Bool)
       → AddsAlone facts volatile (sync_give_step_by volatile (if news then Some (Fact.Adopted give.key give.version give.item give.adds) else None))
-  adopted-by true = record { ends = refl; keeps = refl; follows = (record { promised = refl; voted = refl; heard = refl }, refl) }
+  adopted-by true = record { ends = refl; keeps = refl; follows = (record { promised = refl; voted = refl; heard = refl; no_floor = refl }, refl) }
   adopted-by false = record { ends = tt; keeps = refl; follows = tt }
 
   pub adopted-adds : AddsAlone facts volatile (sync_give_step facts volatile give)
@@ -165,7 +185,12 @@ module _ (volatile : Volatile) where
   ends-lead : (cluster : Cluster) (me : ℕ) (facts : List Fact) (s : ℕ) (choice : Choice) (heard : Option Outcome)
       → EndsIn volatile (lead_step_after (here cluster me facts) volatile s choice heard)
   ends-lead cluster me facts s choice (Some outcome) = tt
-  ends-lead cluster me facts s choice None = ends-led (led_of (here cluster me facts) volatile (claim_of_choice choice))
+  ends-lead cluster me facts s choice None = by (is_finished facts choice.tx)
+    where
+      by : (finished : Bool)
+          → EndsIn volatile (if finished then Ok (sending volatile (to_one me s (Message.Finished choice.tx))) else step_of_led (led_of (here cluster me facts) volatile (claim_of_choice choice)))
+      by true = tt
+      by false = ends-led (led_of (here cluster me facts) volatile (claim_of_choice choice))
 
   ends-act : (me : ℕ) (facts : List Fact) (acted : Option ManagerAct × Managing) → EndsIn volatile (Ok (acted_step me facts volatile acted))
   ends-act me facts (act, manager) = tt
@@ -180,8 +205,8 @@ module _ (volatile : Volatile) where
   ends-watched cluster me facts vote (Some decided) = refl
   ends-watched cluster me facts vote None = tt
 
-  ends-either : (heard opened : Bool) (a b c : NodeStep) → EndsIn volatile (Ok a) → EndsIn volatile (Ok b) → EndsIn volatile (Ok c)
-      → EndsIn volatile (Ok (if heard then a else (if opened then b else c)))
+  ends-either : (settled opened : Bool) (a b c : NodeStep) → EndsIn volatile (Ok a) → EndsIn volatile (Ok b) → EndsIn volatile (Ok c)
+      → EndsIn volatile (Ok (if settled then a else (if opened then b else c)))
   ends-either true opened a b c x y z = x
   ends-either false true a b c x y z = y
   ends-either false false a b c x y z = z
@@ -189,15 +214,9 @@ module _ (volatile : Volatile) where
   ends-voted : (cluster : Cluster) (me : ℕ) (facts : List Fact) (vote : Vote)
       → EndsIn volatile (Ok (voted_step (here cluster me facts) volatile vote))
   ends-voted cluster me facts vote =
-      ends-either (is_heard facts vote.tx) (is_open volatile.manager vote.tx) _ _ _ tt
+      ends-either (is_settled facts vote.tx) (is_open volatile.manager vote.tx) _ _ _ tt
       (ends-opened cluster me facts vote (Manager.would_decide cluster.quorums volatile.manager vote))
       (ends-watched cluster me facts vote (Recover.would_decide cluster.quorums facts volatile.recovery vote))
-
-  ends-ask : (me s : ℕ) (tx : TxId) (key : Key) (version : ℕ) (heard : Option Outcome) (vote : Option (Ballot × Mark))
-      → EndsIn volatile (Ok (ask_step_by me volatile s tx key version heard vote))
-  ends-ask me s tx key version (Some outcome) vote = tt
-  ends-ask me s tx key version None (Some vote) = tt
-  ends-ask me s tx key version None None = tt
 
   pub ends : (cluster : Cluster) (me : ℕ) (facts : List Fact) (s : ℕ) (message : Message)
       → EndsIn volatile (message_step (here cluster me facts) volatile s message)
@@ -206,7 +225,7 @@ module _ (volatile : Volatile) where
       ends-voted cluster me facts (record { from = s; key = key; version = version; ballot = ballot; tx = tx; mark = mark })
   ends cluster me facts s (Message.Escalate key version tx cause) =
       ends-act me facts (Manager.on_escalate cluster.quorums volatile.manager s tx key cause)
-  ends cluster me facts s (Message.Lead choice) = ends-lead cluster me facts s choice (heard_of facts choice.tx)
+  ends cluster me facts s (Message.Lead choice) = ends-lead cluster me facts s choice (outcome_kept facts choice.tx)
   ends cluster me facts s (Message.Prepare key version through ballot) = (prepare-adds me facts volatile s key version through ballot).ends
   ends cluster me facts s (Message.Promise key version through ballot reported votes) =
       let promise : Promise = record { key = key; version = version; through = through; ballot = ballot; reported = reported; votes = votes } in
@@ -214,13 +233,34 @@ module _ (volatile : Volatile) where
   ends cluster me facts s (Message.Accept key version ballot options) = (accept-adds me facts volatile s key version ballot options).ends
   ends cluster me facts s (Message.Refused key version ballot promised) = tt
   ends cluster me facts s (Message.Outcome tx outcome) = (outcome-adds facts volatile tx outcome).ends
-  ends cluster me facts s (Message.Ask tx key version) = ends-ask me s tx key version (heard_of facts tx) (vote_of facts key version tx)
+  ends cluster me facts s (Message.Ask tx key version) = (asked-adds me facts volatile s tx key version).ends
   ends cluster me facts s (Message.SyncAsk key) = tt
   ends cluster me facts s (Message.SyncGive key version item adds) =
       (adopted-adds facts volatile (record { key = key; version = version; item = item; adds = adds })).ends
   ends cluster me facts s (Message.ClientRead serial key) = tt
   ends cluster me facts s (Message.ClientBegin serial parts) = tt
   ends cluster me facts s (Message.ClientAnswer serial answer) = tt
+  ends cluster me facts s (Message.Mark centre epoch seq) = tt
+  ends cluster me facts s (Message.Finished tx) = tt
+
+-- ---- a claim is led, or answered
+
+module _ (cluster : Cluster) (me : ℕ) (facts : List Fact) (volatile : Volatile) (s : ℕ) (choice : Choice) where
+  led-alone : (part : Result StepPart LeadFault) → SendsAlone (step_of_led part)
+  led-alone (Ok part) = (refl, refl)
+  led-alone (Err fault) = tt
+
+  lead-by : (finished : Bool) (led : Result StepPart LeadFault)
+      → SendsAlone (if finished then Ok (sending volatile (to_one me s (Message.Finished choice.tx))) else step_of_led led)
+  lead-by true led = (refl, refl)
+  lead-by false led = led-alone led
+
+  lead-after : (kept : Option Outcome) → SendsAlone (lead_step_after (here cluster me facts) volatile s choice kept)
+  lead-after (Some outcome) = (refl, refl)
+  lead-after None = lead-by (is_finished facts choice.tx) (led_of (here cluster me facts) volatile (claim_of_choice choice))
+
+  pub lead-alone : SendsAlone (lead_step (here cluster me facts) volatile s choice)
+  lead-alone = lead-after (outcome_kept facts choice.tx)
 
 -- ---- votes on what is watched
 
@@ -239,11 +279,11 @@ module _ (quorums : Sizes) (facts : List Fact) (recovery : Recovering) (vote : V
   pub decided-tx : Some decided ≡ Recover.would_decide quorums facts recovery vote → decided.0 ≡ vote.tx
   decided-tx = decided-in (Recover.keys_watched facts recovery vote.tx)
 
--- ---- votes on what was heard
+-- ---- votes on what is settled
 
-pub voted-heard : (cluster : Cluster) (me : ℕ) (facts : List Fact) (volatile : Volatile) (vote : Vote)
-    → is_heard facts vote.tx ≡ true → voted_step (here cluster me facts) volatile vote ≡ nothing_done volatile
-voted-heard cluster me facts volatile vote heard = rw heard refl
+pub voted-settled : (cluster : Cluster) (me : ℕ) (facts : List Fact) (volatile : Volatile) (vote : Vote)
+    → is_settled facts vote.tx ≡ true → voted_step (here cluster me facts) volatile vote ≡ nothing_done volatile
+voted-settled cluster me facts volatile vote settled = rw settled refl
 
 -- ---- what a plan adds
 
@@ -259,19 +299,19 @@ next-by : (sends rest sent whole : List Envelope) (heard : Bool) → sends ++ (i
 next-by sends rest sent whole true e = rw (append-nil sends) e
 next-by sends rest sent whole false e = rw append_assoc e
 
-kept-by : (me : ℕ) (facts : List Fact) (key : Key) (version : ℕ) (ballot : Ballot) (e : TxId × Mark) (es : Options) (heard : Bool) → is_heard facts e.0 ≡ heard
+kept-by : (me : ℕ) (facts : List Fact) (key : Key) (version : ℕ) (ballot : Ballot) (e : TxId × Mark) (es : Options) (settled : Bool) → is_settled facts e.0 ≡ settled
     → all_votes_sent me facts key version ballot (e ∷ es)
-    ≡ (if heard then all_votes_sent me facts key version ballot es else votes_sent me key version ballot e ++ all_votes_sent me facts key version ballot es)
+    ≡ (if settled then all_votes_sent me facts key version ballot es else votes_sent me key version ballot e ++ all_votes_sent me facts key version ballot es)
 kept-by me facts key version ballot e es true h = rw h refl
 kept-by me facts key version ballot e es false h = rw h refl
 
 pub next-votes : (me : ℕ) (facts : List Fact) (key : Key) (version : ℕ) (ballot : Ballot) (marks : Options) (i : ℕ) (e : TxId × Mark) (sends whole : List Envelope)
     → slice_get marks i ≡ Some e → sends ++ all_votes_sent me facts key version ballot (drop i marks) ≡ whole
-    → (sends ++ unheard_sent me facts key version ballot e) ++ all_votes_sent me facts key version ballot (drop (i + 1) marks) ≡ whole
+    → (sends ++ unsettled_sent me facts key version ballot e) ++ all_votes_sent me facts key version ballot (drop (i + 1) marks) ≡ whole
 next-votes me facts key version ballot marks i e sends whole at h =
     let here : sends ++ all_votes_sent me facts key version ballot (e ∷ drop (i + 1) marks) ≡ whole = rw (drop-get marks i e at) at h in
-    next-by sends (all_votes_sent me facts key version ballot (drop (i + 1) marks)) (votes_sent me key version ballot e) whole (is_heard facts e.0)
-    (rw (kept-by me facts key version ballot e (drop (i + 1) marks) (is_heard facts e.0) refl) at here)
+    next-by sends (all_votes_sent me facts key version ballot (drop (i + 1) marks)) (votes_sent me key version ballot e) whole (is_settled facts e.0)
+    (rw (kept-by me facts key version ballot e (drop (i + 1) marks) (is_settled facts e.0) refl) at here)
 
 -- ---- acts at a tick, one after the other
 

@@ -6,6 +6,7 @@ pub mod Marks
 pub mod Planned
 pub mod Rest
 pub mod Rooms
+pub mod Shown
 pub mod Standing
 pub mod Ticks
 pub mod Unvoted

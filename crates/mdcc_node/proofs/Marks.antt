@@ -1,16 +1,10 @@
 -- A mark put behind others in order.
-use Rattle.std.proofs.Common.{◌≡◌, ◌∷◌, ◌++◌, [], ap, Bool, None, refl, true, is_some, not}
+use Rattle.std.proofs.Common.{◌≡◌, ◌∷◌, ◌++◌, [], ap, None, refl, true}
 use Rattle.mdcc_base.specs.TxId.{tx_lt}
 use Rattle.mdcc_base.specs.declared.identifiers.TxId.{TxId}
-use Rattle.mdcc_option.specs.declared.choices.Mark.{Mark}
 use Rattle.mdcc_struct.specs.Maps.{TxMap, are_ascending, inserted, value_of}
-use Rattle.mdcc_struct.specs.declared.options.Options.{Options}
 use Rattle.mdcc_struct.proofs.Order.{tx_lt-apart}
 use Rattle.mdcc_struct.proofs.Ordered.{IsBelow, ascending-below, ascending-tail}
-
--- whether votes have no mark of the transaction
-abbrev pub is_new : Options → TxId × Mark → Bool
-is_new votes e = not (is_some (value_of votes e.0))
 
 below-last : {X : Type 0} (tx : TxId) (m : TxMap X) (e : TxId × X) → IsBelow tx (m ++ e ∷ []) → tx_lt tx e.0 ≡ true
 below-last tx [] e h = h.0

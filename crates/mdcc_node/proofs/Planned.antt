@@ -1,5 +1,5 @@
 -- What a planned step is once its fact is added.
-use Rattle.std.proofs.Common.{◌≡◌, ℕ, Bool, true, false, List, ◌∷◌, Option, Some, None, Ok, Err, Result, refl, inl, inr}
+use Rattle.std.proofs.Common.{◌≡◌, ℕ, Bool, true, false, List, [], ◌∷◌, Option, Some, None, Ok, Err, Result, refl, inl, inr}
 use Rattle.std.specs.Bool.{OnTrue}
 use Rattle.std.specs.Prelude.{OnErr, OnOk, ⊤}
 use Rattle.std.proofs.lemmas.Bool.{cases_Bool}
@@ -8,7 +8,7 @@ use Rattle.mdcc_facts.specs.Adding.{add_result}
 use Rattle.mdcc_messages.specs.declared.facts.Fact.{Fact}
 use Rattle.mdcc_messages.specs.declared.messages.Envelope.{Envelope}
 use Rattle.mdcc_node.specs.MethodEffects.{ended}
-use Rattle.mdcc_node.specs.StepPlans.{FitsFrame, PlanFitsFrame, kept, kept_by, plan_of, planned, written}
+use Rattle.mdcc_node.specs.StepPlans.{FitsFrame, PlanFitsFrame, kept, kept_by, plan_of, planned, sends_after, written}
 use Rattle.mdcc_node.specs.Represents.{RepresentsAfter, RepresentsCentre}
 use Rattle.mdcc_node.specs.StepAnswers.{OnMemory, Room, UnlessMemory, step_result, if_added, is_step_memory, step_if, if_plan_added, if_fact_added, with_store}
 use Rattle.mdcc_node.specs.declared.node.Node.{Node}
@@ -150,6 +150,25 @@ acts-plan step sends (Err fault) fact answer e =
     elim (cases_Bool (is_step_memory fault)) [
       | inl free ↦ rw free tt
       | inr not ↦ absurd (let bad : Err fault ≡ Ok step.sends = rw not at e in cc)
+    ]
+
+-- a rule that only sends, where it is not refused
+abbrev pub SendsAlone : Result NodeStep StepFault → Type 0
+SendsAlone (Ok step) = (step.fact ≡ None) × (step.answer ≡ None)
+SendsAlone (Err fault) = ⊤
+
+pub sends-plan : (expected : Result NodeStep StepFault) (sends : List Envelope) (result : Result (Unit {0}) StepFault) → SendsAlone expected
+    → GivesUnless is_step_memory (written result sends) (sends_after [] expected)
+    → GivesUnless is_step_memory (written result (record { fact = None; sends = sends; heard = None; answer = None })) (plan_of expected)
+sends-plan (Ok step) sends result alone e = acts-plan step sends result alone.0 alone.1 e
+sends-plan (Err other) sends (Ok done) alone e = absurd (cc)
+sends-plan (Err other) sends (Err fault) alone e =
+    elim (cases_Bool (is_step_memory fault)) [
+      | inl free ↦ rw free tt
+      | inr not ↦
+          let same : ◌≡◌ {A = Result (List Envelope) StepFault} (Err fault) (Err other) = rw not at e in
+          let is : fault ≡ other = cc in
+          rw not (rw is refl)
     ]
 
 pub unless-any : {T U : Type 0} (result : Result (Unit {0}) StepFault) (x : T) (y : U) (P : Type 0)

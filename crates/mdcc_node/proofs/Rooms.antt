@@ -33,6 +33,7 @@ step-alike : (room : Room) (cluster : Cluster) (me : ℕ) (facts : List Fact) (v
 step-alike room cluster me facts volatile alike (Input.Message envelope) =
     rw (store-alike room cluster facts alike (message_step (here cluster me facts) volatile envelope.from envelope.message)) refl
 step-alike room cluster me facts volatile alike Input.Tick = refl
+step-alike room cluster me facts volatile alike Input.Sweep = refl
 step-alike room cluster me facts volatile alike (Input.Read key) = refl
 step-alike room cluster me facts volatile alike (Input.Begin parts) = refl
 
@@ -57,6 +58,7 @@ pub unbounded_steps : StepsUnbounded
 unbounded_steps room cluster me facts volatile (Input.Message envelope) unbounded =
     rw (store-unbounded room facts (message_step (here cluster me facts) volatile envelope.from envelope.message) unbounded) refl
 unbounded_steps room cluster me facts volatile Input.Tick unbounded = refl
+unbounded_steps room cluster me facts volatile Input.Sweep unbounded = refl
 unbounded_steps room cluster me facts volatile (Input.Read key) unbounded = refl
 unbounded_steps room cluster me facts volatile (Input.Begin parts) unbounded = refl
 

@@ -1,5 +1,5 @@
 -- A vote is given where none was given before.
-use Rattle.std.proofs.Common.{◌≡◌, ℕ, Bool, true, false, List, [], ◌∷◌, Option, Some, None, refl, arith, inl, inr, ◌&&◌, if◌then◌else◌}
+use Rattle.std.proofs.Common.{◌≡◌, ℕ, Bool, true, false, List, [], ◌∷◌, Option, Some, None, refl, arith, inl, inr, ◌&&◌, if◌then◌else◌, nat_lt}
 use Rattle.std.specs.Option.{option_map}
 use Rattle.std.proofs.lemmas.Bool.{cases_Bool}
 use Rattle.mdcc_base.specs.Ballot.{ballot_lt, fast_ballot}
@@ -12,8 +12,8 @@ use Rattle.mdcc_option.specs.declared.choices.Choice.{Choice}
 use Rattle.mdcc_option.specs.declared.choices.Mark.{Mark}
 use Rattle.mdcc_option.specs.declared.choices.Outcome.{Outcome}
 use Rattle.mdcc_option.specs.declared.cluster.Cluster.{Cluster}
-use Rattle.mdcc_protocol.specs.Acceptor.{answer_after, on_propose}
-use Rattle.mdcc_protocol.specs.Facts.{heard_of, later_vote, mark_voted, marks_voted, vote_of, votes_of}
+use Rattle.mdcc_protocol.specs.Acceptor.{answer_after, answer_by_vote, on_propose}
+use Rattle.mdcc_protocol.specs.Facts.{current_of, is_finished, last_vote, later_vote, mark_voted, marks_voted, outcome_kept, vote_of, votes_of}
 use Rattle.mdcc_protocol.specs.declared.acceptor.ProposeAnswer.{ProposeAnswer}
 use Rattle.mdcc_messages.specs.declared.facts.Fact.{Fact}
 use Rattle.mdcc_struct.specs.Maps.{value_of}
@@ -45,30 +45,41 @@ marks-none true true ballot options tx e = map-none {Y = Ballot × Mark} (λ mar
 unmarked : (fact : Fact) (key : Key) (version : ℕ) (tx : TxId) (ballot : Ballot) → mark_voted key version tx fact ≡ None
     → value_of (marks_voted key version ballot fact) tx ≡ None
 unmarked (Fact.Booted epoch) key version tx ballot e = refl
+unmarked (Fact.Floor origin era upto) key version tx ballot e = refl
 unmarked (Fact.Promised key' low high ballot') key version tx ballot e = refl
 unmarked (Fact.Voted key' version' ballot' options offered) key version tx ballot e = grind (arith, marks-none, map-none)
 unmarked (Fact.Heard tx' outcome) key version tx ballot e = refl
 unmarked (Fact.Adopted key' version' item adds) key version tx ballot e = refl
 
-pub unvoted : (facts : List Fact) (key : Key) (version : ℕ) (tx : TxId) (ballot : Ballot) → vote_of facts key version tx ≡ None
+pub unvoted : (facts : List Fact) (key : Key) (version : ℕ) (tx : TxId) (ballot : Ballot) → last_vote facts key version tx ≡ None
     → value_of (votes_of facts key version ballot) tx ≡ None
 unvoted [] key version tx ballot e = refl
 unvoted (fact ∷ facts) key version tx ballot e =
-    let both = later-none (vote_of facts key version tx) (mark_voted key version tx fact) e in
+    let both = later-none (last_vote facts key version tx) (mark_voted key version tx fact) e in
     rw (value_of-union (votes_of facts key version ballot) (marks_voted key version ballot fact) tx, unvoted facts key version tx ballot both.0)
     (unmarked fact key version tx ballot both.1)
 
 -- ---- an acceptor's vote
 
-vote-after : (cluster : Cluster) (facts : List Fact) (choice : Choice) (heard : Option Outcome) (vote : Option (Ballot × Mark)) (mark : Mark)
-    → answer_after cluster facts choice heard vote ≡ ProposeAnswer.Vote mark → vote ≡ None
-vote-after cluster facts choice (Some outcome) vote mark e = absurd (cc)
-vote-after cluster facts choice None (Some vote) mark e = absurd (cc)
-vote-after cluster facts choice None None mark e = refl
+shown : {X : Type 0} (finished below : Bool) (last : Option X) → finished ≡ false → (if finished && below then None else last) ≡ None → last ≡ None
+shown true below last f e = absurd (cc)
+shown false below last f e = e
 
-pub new_vote : (cluster : Cluster) (facts : List Fact) (choice : Choice) (mark : Mark) → on_propose cluster facts choice ≡ ProposeAnswer.Vote mark
-    → IsNews facts (vote_fact choice mark)
-new_vote cluster facts choice mark e =
-    let voted = vote-after cluster facts choice (heard_of facts choice.tx) (vote_of facts choice.key choice.version choice.tx) mark e in
-    let none : value_of (votes_of facts choice.key choice.version fast_ballot) choice.tx ≡ None = unvoted facts choice.key choice.version choice.tx fast_ballot voted in
-    record { promised = refl; voted = rw none refl; heard = refl }
+module _ (cluster : Cluster) (facts : List Fact) (choice : Choice) (mark : Mark) where
+  vote-by : (finished : Bool) (vote : Option (Ballot × Mark)) → is_finished facts choice.tx ≡ finished → vote_of facts choice.key choice.version choice.tx ≡ vote
+      → (if finished then ProposeAnswer.Finished else answer_by_vote cluster facts choice vote) ≡ ProposeAnswer.Vote mark
+      → last_vote facts choice.key choice.version choice.tx ≡ None
+  vote-by true vote f v e = absurd (cc)
+  vote-by false (Some vote) f v e = absurd (cc)
+  vote-by false None f v e =
+      shown (is_finished facts choice.tx) (nat_lt choice.version (current_of facts choice.key)) (last_vote facts choice.key choice.version choice.tx) f v
+
+  vote-after : (kept : Option Outcome) → answer_after cluster facts choice kept ≡ ProposeAnswer.Vote mark → last_vote facts choice.key choice.version choice.tx ≡ None
+  vote-after (Some outcome) e = absurd (cc)
+  vote-after None e = vote-by (is_finished facts choice.tx) (vote_of facts choice.key choice.version choice.tx) refl refl e
+
+  pub new_vote : on_propose cluster facts choice ≡ ProposeAnswer.Vote mark → IsNews facts (vote_fact choice mark)
+  new_vote e =
+      let voted = vote-after (outcome_kept facts choice.tx) e in
+      let none : value_of (votes_of facts choice.key choice.version fast_ballot) choice.tx ≡ None = unvoted facts choice.key choice.version choice.tx fast_ballot voted in
+      record { promised = refl; voted = rw none refl; heard = refl; no_floor = refl }

@@ -1,12 +1,12 @@
 -- What a step is made of.
-use Rattle.std.specs.Prelude.{Bool, Err, List, None, Ok, Option, Result, Some, [], if◌then◌else◌, is_some, not, ◌&&◌, ◌∷◌}
+use Rattle.std.specs.Prelude.{Bool, Err, List, None, Ok, Option, Result, Some, [], if◌then◌else◌, is_some, not, ◌&&◌, ◌||◌, ◌∷◌}
 use Rattle.mdcc_base.specs.Ballot.{fast_ballot}
 use Rattle.mdcc_base.specs.declared.identifiers.TxId.{TxId}
 use Rattle.mdcc_base.specs.declared.key.Key.{Key}
 use Rattle.mdcc_option.specs.declared.choices.Choice.{Choice}
 use Rattle.mdcc_option.specs.declared.choices.Mark.{Mark}
 use Rattle.mdcc_option.specs.declared.faults.BeginFault.{BeginFault}
-use Rattle.mdcc_protocol.specs.Facts.{is_heard, unresolved_of}
+use Rattle.mdcc_protocol.specs.Facts.{is_finished, is_settled, unresolved_of}
 use Rattle.mdcc_protocol.specs.Marks.{is_accept}
 use Rattle.mdcc_messages.specs.declared.facts.Fact.{Fact}
 use Rattle.mdcc_messages.specs.declared.messages.Envelope.{Envelope}
@@ -14,6 +14,7 @@ use Rattle.mdcc_rules.specs.declared.node.Answer.{Answer}
 use Rattle.mdcc_rules.specs.declared.node.Step.{Step}
 use Rattle.mdcc_rules.specs.declared.node.StepFault.{StepFault}
 use Rattle.mdcc_struct.specs.Maps.{value_of}
+use Rattle.mdcc_struct.specs.declared.options.Options.{Options}
 
 -- messages and an answer to a client
 abbrev pub replied : List Envelope → Answer → Step
@@ -32,6 +33,10 @@ offered choice mark = if is_accept mark then None else Some choice
 abbrev pub vote_fact : Choice → Mark → Fact
 vote_fact choice mark = Fact.Voted choice.key choice.version fast_ballot ((choice.tx, mark) ∷ []) (offered choice mark)
 
--- whether the outcome of a transaction was not heard, and no vote holds a choice of it
+-- whether a transaction was not heard and is not finished, and no vote holds a choice of it
 abbrev pub is_unknown : List Fact → TxId → Bool
-is_unknown facts tx = not (is_heard facts tx) && not (is_some (value_of (unresolved_of facts) tx))
+is_unknown facts tx = not (is_settled facts tx) && not (is_some (value_of (unresolved_of facts) tx))
+
+-- whether a transaction has no mark among votes, and is not finished
+abbrev pub is_new : List Fact → Options → TxId → Bool
+is_new facts votes tx = not (is_some (value_of votes tx) || is_finished facts tx)

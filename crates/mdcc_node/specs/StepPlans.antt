@@ -16,7 +16,7 @@ use Rattle.mdcc_node.specs.StepAnswers.{UnlessMemory, is_step_memory}
 use Rattle.mdcc_node.specs.declared.node.Node.{Node}
 use Rattle.mdcc_option.specs.declared.choices.Mark.{Mark}
 use Rattle.mdcc_option.specs.declared.cluster.Cluster.{Cluster}
-use Rattle.mdcc_protocol.specs.Facts.{epoch_of, is_heard}
+use Rattle.mdcc_protocol.specs.Facts.{epoch_of, is_floor, is_settled}
 use Rattle.mdcc_protocol.specs.Volatile.{Volatile}
 use Rattle.mdcc_protocol.specs.declared.leader.LeadFault.{LeadFault}
 use Rattle.mdcc_rules.specs.AcceptorRules.{votes_sent}
@@ -78,9 +78,9 @@ abbrev pub left_out : LeadFault → Result (Unit {0}) StepFault
 left_out LeadFault.Memory = Err StepFault.Memory
 left_out fault = Ok tt
 
--- a vote, but for a transaction that was heard
-abbrev pub unheard_sent : ℕ → List Fact → Key → ℕ → Ballot → TxId × Mark → List Envelope
-unheard_sent me facts key version ballot e = if is_heard facts e.0 then [] else votes_sent me key version ballot e
+-- a vote, but for a transaction that was heard or is finished
+abbrev pub unsettled_sent : ℕ → List Fact → Key → ℕ → Ballot → TxId × Mark → List Envelope
+unsettled_sent me facts key version ballot e = if is_settled facts e.0 then [] else votes_sent me key version ballot e
 
 -- ---- what is kept
 
@@ -93,11 +93,12 @@ abbrev pub kept : Volatile → Result NodeStep StepFault → Volatile
 kept volatile (Ok step) = kept_by volatile step.after step.fact
 kept volatile (Err fault) = volatile
 
--- a fact says nothing a second time
+-- a fact says nothing a second time, and sets no floor
 pub record IsNews (facts : List Fact) (fact : Fact) : Type 0 where
   pub promised : is_promised_before facts fact ≡ false
   pub voted : is_voted_before facts fact ≡ false
   pub heard : is_heard_before facts fact ≡ false
+  pub no_floor : is_floor fact ≡ false
 
 -- a planned fact is news, and no boot
 abbrev pub MayFollow : List Fact → Option Fact → Type 0

@@ -5,7 +5,7 @@ ghost use Rattle.mdcc_messages.specs.declared.facts.Fact.{Fact as AFact};
 ghost use Rattle.mdcc_messages.specs.declared.messages.Message.{Message as AMessage};
 ghost use Rattle.mdcc_node.specs.StepPlans.{MayFollow, blank, planned};
 ghost use Rattle.mdcc_protocol.specs.Acceptor.{new_marks};
-ghost use Rattle.mdcc_protocol.specs.Facts.{votes_of};
+ghost use Rattle.mdcc_protocol.specs.Facts.{shown_of};
 ghost use Rattle.mdcc_protocol.specs.Volatile.{Volatile as AVolatile};
 ghost use Rattle.mdcc_protocol.specs.declared.acceptor.ProposeAnswer.{ProposeAnswer as AProposeAnswer};
 ghost use Rattle.mdcc_rules.specs.AcceptorRules.{accept_step, accepted_step, prepare_step, prepared_step, promise_message, propose_step, proposed_step, voted_marks_step};
@@ -74,6 +74,19 @@ impl<S: FactStore + Drop> Node<S> {
         )
     }
 
+    // It is told that all centres have heard how a transaction ended.
+    pub(crate) fn send_finished(
+        &self,
+        to: u8,
+        tx: TxId,
+        sends: &mut HeapList<Envelope>,
+    ) -> Result<(), Memory>
+        ensures { OnOk result (sends.new ≡ sends.old ++ to_one self.now.centre to (AMessage.Finished tx)) }
+    {
+        let message = Message::Finished(tx);
+        send(self.alloc, self.centre.number(), to, message, sends)
+    }
+
     // It is told why there is no vote.
     fn send_cause(
         &self,
@@ -109,6 +122,7 @@ impl<S: FactStore + Drop> Node<S> {
             ProposeAnswer::Known(outcome) => {
                 self.send_outcome(from, choice.tx, outcome, &mut step.sends)
             }
+            ProposeAnswer::Finished => self.send_finished(from, choice.tx, &mut step.sends),
             ProposeAnswer::Again(ballot, mark) => {
                 self.send_vote(from, choice, *ballot, mark, &mut step.sends)
             }
@@ -133,7 +147,8 @@ impl<S: FactStore + Drop> Node<S> {
 
     // ---- promises
 
-    // What a leader that asks below a ballot is told of the votes at another one.
+    // What a leader that asks below a ballot is told of the votes at another one: those that are not
+    // forgotten.
     fn votes_told(
         &self,
         key: &Key,
@@ -142,7 +157,7 @@ impl<S: FactStore + Drop> Node<S> {
         ballot: Ballot,
     ) -> Result<Options, Memory>
         ensures { (facts : List AFact) → S.stands self.now.store facts
-            → IfOk result (λ votes. votes ≡ (if is_fast below then [] else votes_of facts key.now version ballot)) }
+            → IfOk result (λ votes. votes ≡ (if is_fast below then [] else shown_of facts key.now version ballot)) }
     {
         if below.is(&Ballot::FAST) {
             return Options::new(self.alloc);

@@ -1,11 +1,11 @@
 //! The node's rules around its leader: claims, promises and refusals, and the open transactions at a tick.
-ghost use Rattle.std.specs.Prelude.{◌≡◌, ◌≤◌, List, Ok, ℕ};
+ghost use Rattle.std.specs.Prelude.{◌≡◌, ◌≤◌, List, None, Ok, ℕ};
 ghost use Rattle.mdcc_messages.specs.declared.facts.Fact.{Fact as AFact};
 ghost use Rattle.mdcc_node.specs.StepPlans.{Acts, left_out, written};
 ghost use Rattle.mdcc_node.specs.Represents.{RepresentsCentre};
 ghost use Rattle.mdcc_option.specs.declared.cluster.Cluster.{Cluster as ACluster};
 ghost use Rattle.mdcc_protocol.specs.Volatile.{Volatile as AVolatile};
-ghost use Rattle.mdcc_rules.specs.LeaderRules.{lead_step, led_of, promise_step, refused_step, step_of_led};
+ghost use Rattle.mdcc_rules.specs.LeaderRules.{lead_step, lead_step_after, led_of, promise_step, refused_step, step_of_led};
 ghost use Rattle.mdcc_rules.specs.Steps.{step_of_part};
 ghost use Rattle.mdcc_rules.specs.TickRules.{claim_led, manager_act, manager_ticked};
 ghost use Rattle.mdcc_rules.specs.Here.{here};
@@ -49,8 +49,24 @@ impl<S: FactStore + Drop> Node<S> {
                 send(self.alloc, self.centre.number(), from, message, sends)?;
                 Ok(())
             }
-            None => self.lead_claim(&claim_of(choice), sends),
+            None => self.lead_open(from, choice, sends),
         }
+    }
+
+    // The same where no outcome of its transaction is kept: it may be finished.
+    fn lead_open(
+        &mut self,
+        from: u8,
+        choice: &Choice,
+        sends: &mut HeapList<Envelope>,
+    ) -> Result<(), StepFault>
+        ensures { Acts S.stands self.old sends.old (written result sends.new) self.new (λ cluster me facts volatile. lead_step_after (here cluster me facts) volatile from choice.now None) }
+    {
+        if self.store.finished(choice.tx) {
+            self.send_finished(from, choice.tx, sends)?;
+            return Ok(());
+        }
+        self.lead_claim(&claim_of(choice), sends)
     }
 
     // A centre promised a ballot that is led here.

@@ -10,7 +10,7 @@ ghost use Rattle.mdcc_node.specs.StepParts.{refused_given, replied};
 ghost use Rattle.mdcc_node.specs.Represents.{RepresentsCentre};
 ghost use Rattle.mdcc_option.specs.Transaction.{choices_of};
 ghost use Rattle.mdcc_option.specs.declared.cluster.Cluster.{Cluster as ACluster};
-ghost use Rattle.mdcc_protocol.specs.Facts.{is_heard};
+ghost use Rattle.mdcc_protocol.specs.Facts.{is_settled};
 ghost use Rattle.mdcc_protocol.specs.Manager.{key_refused as key_refused_of, would_decide};
 ghost use Rattle.mdcc_protocol.specs.Volatile.{Volatile as AVolatile};
 ghost use Rattle.mdcc_rules.specs.ManagerRules.{act_sent, begin_step, decided_step, escalate_step, opened_step, proposals_sent, voted_step};
@@ -120,7 +120,7 @@ impl<S: FactStore + Drop> Node<S> {
 
     // ---- votes
 
-    // A transaction that was not heard is decided here.
+    // A transaction that is not settled is decided here.
     pub(crate) fn decide(&self, tx: TxId, outcome: Outcome, step: &mut Step) -> Result<(), Memory>
         requires { step.old ≡ blank }
         ensures { (volatile : AVolatile) → OnOk result (step.new ≡ planned (decided_step self.now.cluster self.now.centre volatile tx outcome)) }
@@ -143,11 +143,11 @@ impl<S: FactStore + Drop> Node<S> {
         Ok(())
     }
 
-    // A vote on an open transaction that was not heard decides it.
+    // A vote on an open transaction that is not settled decides it.
     #[inline(never)]
     fn decided(&self, vote: &Vote, step: &mut Step) -> Result<(), StepFault>
         requires blank { step.old ≡ blank }
-        requires unheard { (facts : List AFact) → S.stands self.now.store facts → is_heard facts vote.now.tx ≡ false }
+        requires unsettled { (facts : List AFact) → S.stands self.now.store facts → is_settled facts vote.now.tx ≡ false }
         requires ends { (cluster : ACluster) (me : ℕ) (facts : List AFact) (volatile : AVolatile) → RepresentsCentre S.stands self.now cluster me facts volatile
             → is_some (would_decide cluster.quorums volatile.manager vote.now) ≡ true }
         ensures plan { Plans S.stands self.now (written result step.new) self.now (λ cluster me facts volatile. Ok (opened_step (here cluster me facts) volatile vote.now (would_decide cluster.quorums volatile.manager vote.now))) }
@@ -162,11 +162,11 @@ impl<S: FactStore + Drop> Node<S> {
         }
     }
 
-    // A vote on an open transaction that was not heard. One that decides is not taken, since its
+    // A vote on an open transaction that is not settled. One that decides is not taken, since its
     // transaction is closed.
     fn opened(&mut self, vote: &Vote, step: &mut Step) -> Result<(), StepFault>
         requires blank { step.old ≡ blank }
-        requires unheard { (facts : List AFact) → S.stands self.old.store facts → is_heard facts vote.now.tx ≡ false }
+        requires unsettled { (facts : List AFact) → S.stands self.old.store facts → is_settled facts vote.now.tx ≡ false }
         ensures plan { Plans S.stands self.old (written result step.new) self.new (λ cluster me facts volatile. Ok (opened_step (here cluster me facts) volatile vote.now (would_decide cluster.quorums volatile.manager vote.now))) }
         ensures fact { (facts : List AFact) → S.stands self.old.store facts → OnOk result (MayFollow facts step.new.fact) }
     {
@@ -177,13 +177,14 @@ impl<S: FactStore + Drop> Node<S> {
         }
     }
 
-    // A vote came. One on a transaction that is neither open nor watched here changes nothing.
+    // A vote came. One on a transaction that was heard or is finished, or that is neither open nor
+    // watched here, changes nothing.
     pub(crate) fn voted(&mut self, vote: &Vote, step: &mut Step) -> Result<(), StepFault>
         requires { step.old ≡ blank }
         ensures plan { Plans S.stands self.old (written result step.new) self.new (λ cluster me facts volatile. Ok (voted_step (here cluster me facts) volatile vote.now)) }
         ensures fact { (facts : List AFact) → S.stands self.old.store facts → OnOk result (MayFollow facts step.new.fact) }
     {
-        if self.store.is_heard(vote.tx) {
+        if self.store.is_settled(vote.tx) {
             return Ok(());
         }
         if self.manager.is_open(vote.tx) {

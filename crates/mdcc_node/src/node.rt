@@ -12,7 +12,7 @@ ghost use Rattle.mdcc_node.specs.StepAnswers.{IsGiven, add_given, is_step_memory
 ghost use Rattle.mdcc_option.specs.declared.cluster.Cluster.{Cluster as ACluster};
 ghost use Rattle.mdcc_protocol.specs.Belongs.{is_centre};
 ghost use Rattle.mdcc_protocol.specs.Facts.{epoch_of};
-ghost use Rattle.mdcc_protocol.specs.Volatile.{Volatile as AVolatile};
+ghost use Rattle.mdcc_protocol.specs.Volatile.{Volatile as AVolatile, closed};
 ghost use Rattle.mdcc_rules.specs.Node.{message_step};
 ghost use Rattle.mdcc_rules.specs.Steps.{heard_by, with_new};
 ghost use Rattle.mdcc_rules.specs.declared.node.Input.{Input as AInput};
@@ -20,7 +20,7 @@ ghost use Rattle.mdcc_steps.specs.NodeInvariant.{accept_length};
 ghost use Rattle.mdcc_rules.specs.Here.{here};
 
 use crate::steps::{blank, heard_by};
-use mdcc_base::{Centre, Plain};
+use mdcc_base::{Centre, Plain, TxId};
 use mdcc_facts::FactStore;
 use mdcc_leader::Leader;
 use mdcc_manager::Manager;
@@ -71,10 +71,19 @@ impl<S: FactStore + Drop> Node<S> {
     {
         self.store.add(fact)?;
         if let Fact::Heard { tx, .. } = fact {
-            self.manager.close(*tx);
-            self.recover.close(*tx);
+            self.close(*tx);
         }
         Ok(())
+    }
+
+    // A transaction has ended: nothing is done for it any more.
+    fn close(&mut self, tx: TxId)
+        ensures closed { (cluster : ACluster) (me : ℕ) (facts : List AFact) (volatile : AVolatile) → RepresentsCentre S.stands self.old cluster me facts volatile
+            → RepresentsCentre S.stands self.new cluster me facts (closed volatile tx) }
+        ensures store { self.new.store ≡ self.old.store }
+    {
+        self.manager.close(tx);
+        self.recover.close(tx);
     }
 
     // Adds the fact of a planned step, if there is one.
@@ -98,8 +107,8 @@ impl<S: FactStore + Drop> Node<S> {
         Ok(())
     }
 
-    // A centre asks for an outcome or a vote, or for what is held of a key, or gives it; or a message
-    // that this node does not take.
+    // A centre asks for an outcome or a vote, or for what is held of a key, or gives it; or it tells
+    // that a transaction is finished; or a message that this node does not take.
     fn take_sync(
         &mut self,
         from: Centre,
@@ -135,6 +144,10 @@ impl<S: FactStore + Drop> Node<S> {
                     adds: adds.copy(self.alloc)?,
                 };
                 self.adopt(&give, step)?;
+                Ok(())
+            }
+            Message::Finished(tx) => {
+                self.close(*tx);
                 Ok(())
             }
             _ => Ok(()),
@@ -307,6 +320,8 @@ impl<S: FactStore + Drop> Node<S> {
         match input {
             Input::Message(envelope) => self.deliver(envelope, step),
             Input::Tick => self.tick(&mut step.sends),
+            // A node tells no other how far it has heard yet.
+            Input::Sweep => Ok(()),
             Input::Read(key) => {
                 step.answer = Some(Answer::Read(read(&self.store, key)));
                 Ok(())

@@ -3,10 +3,10 @@
 ghost use Rattle.std.specs.Prelude.{◌≡◌, ◌++◌, [], List, None, Ok, OnOk, false};
 ghost use Rattle.mdcc_messages.specs.declared.facts.Fact.{Fact as AFact};
 ghost use Rattle.mdcc_node.specs.StepPlans.{Acts, MayFollow, Plans, blank, planned, written};
-ghost use Rattle.mdcc_protocol.specs.Facts.{is_heard};
+ghost use Rattle.mdcc_protocol.specs.Facts.{is_settled, vote_of};
 ghost use Rattle.mdcc_protocol.specs.Recover.{would_decide};
 ghost use Rattle.mdcc_protocol.specs.Volatile.{Volatile as AVolatile};
-ghost use Rattle.mdcc_rules.specs.AcceptorRules.{ask_step};
+ghost use Rattle.mdcc_rules.specs.AcceptorRules.{ask_step, ask_step_after};
 ghost use Rattle.mdcc_rules.specs.ManagerRules.{watched_step};
 ghost use Rattle.mdcc_rules.specs.Steps.{only_sending, step_of_part};
 ghost use Rattle.mdcc_rules.specs.TickRules.{recovery_act, recovery_ticked, tick_step};
@@ -23,7 +23,8 @@ use mdcc_sends::{ask_votes, send};
 impl<S: FactStore + Drop> Node<S> {
     // ---- questions
 
-    // What was heard of a transaction, or what was voted on it here, goes to a centre.
+    // What was heard of a transaction, or that it is finished, or what was voted on it here, goes to a
+    // centre.
     fn answer_asked(
         &self,
         to: u8,
@@ -35,16 +36,28 @@ impl<S: FactStore + Drop> Node<S> {
         ensures { (facts : List AFact) (volatile : AVolatile) → S.stands self.now.store facts
             → OnOk result (sends.new ≡ sends.old ++ (ask_step self.now.centre facts volatile to tx key.now version).sends) }
     {
-        let centre = self.centre.number();
         if let Some(outcome) = self.store.heard(tx) {
-            return send(
-                self.alloc,
-                centre,
-                to,
-                Message::Outcome { tx, outcome },
-                sends,
-            );
+            let message = Message::Outcome { tx, outcome };
+            return send(self.alloc, self.centre.number(), to, message, sends);
         }
+        if self.store.finished(tx) {
+            return self.send_finished(to, tx, sends);
+        }
+        self.answer_by_vote(to, tx, key, version, sends)
+    }
+
+    // What was voted on a transaction here goes to a centre.
+    fn answer_by_vote(
+        &self,
+        to: u8,
+        tx: TxId,
+        key: &Key,
+        version: u64,
+        sends: &mut HeapList<Envelope>,
+    ) -> Result<(), Memory>
+        ensures { (facts : List AFact) (volatile : AVolatile) → S.stands self.now.store facts
+            → OnOk result (sends.new ≡ sends.old ++ (ask_step_after self.now.centre volatile to tx key.now version (vote_of facts key.now version tx)).sends) }
+    {
         match self.store.vote_of(key, version, tx) {
             Some((ballot, mark)) => {
                 let message = Message::Voted {
@@ -54,7 +67,7 @@ impl<S: FactStore + Drop> Node<S> {
                     tx,
                     mark,
                 };
-                send(self.alloc, centre, to, message, sends)
+                send(self.alloc, self.centre.number(), to, message, sends)
             }
             None => Ok(()),
         }
@@ -80,11 +93,11 @@ impl<S: FactStore + Drop> Node<S> {
 
     // ---- votes
 
-    // A vote on a transaction that was not heard and is not open here. One that decides is not taken,
+    // A vote on a transaction that is not settled and not open here. One that decides is not taken,
     // since its transaction is closed.
     pub(crate) fn watched(&mut self, vote: &Vote, step: &mut Step) -> Result<(), StepFault>
         requires blank { step.old ≡ blank }
-        requires unheard { (facts : List AFact) → S.stands self.old.store facts → is_heard facts vote.now.tx ≡ false }
+        requires unsettled { (facts : List AFact) → S.stands self.old.store facts → is_settled facts vote.now.tx ≡ false }
         ensures plan { Plans S.stands self.old (written result step.new) self.new (λ cluster me facts volatile. Ok (watched_step (here cluster me facts) volatile vote.now (would_decide cluster.quorums facts volatile.recovery vote.now))) }
         ensures fact { (facts : List AFact) → S.stands self.old.store facts → OnOk result (MayFollow facts step.new.fact) }
     {

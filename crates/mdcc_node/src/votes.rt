@@ -2,10 +2,10 @@
 ghost use Rattle.std.specs.Prelude.{◌≡◌, ◌++◌, ◌&&◌, ◌-◌, ◌==◌, IfOk, List, None, OnOk, filter, is_some, length, not};
 ghost use Rattle.mdcc_messages.specs.declared.facts.Fact.{Fact as AFact};
 ghost use Rattle.mdcc_messages.specs.declared.messages.Message.{Message as AMessage};
-ghost use Rattle.mdcc_node.specs.StepParts.{is_unknown};
-ghost use Rattle.mdcc_node.specs.StepPlans.{unheard_sent};
+ghost use Rattle.mdcc_node.specs.StepParts.{is_new, is_unknown};
+ghost use Rattle.mdcc_node.specs.StepPlans.{unsettled_sent};
 ghost use Rattle.mdcc_protocol.specs.Acceptor;
-ghost use Rattle.mdcc_protocol.specs.Stores.{count_voted};
+ghost use Rattle.mdcc_facts.specs.Past.{count_past};
 ghost use Rattle.mdcc_rules.specs.AcceptorRules.{all_votes_sent, votes_sent};
 ghost use Rattle.mdcc_struct.specs.Maps.{inserted, value_of};
 
@@ -17,25 +17,38 @@ use mdcc_sends::send;
 use mdcc_struct::Options;
 use std::alloc::Global;
 
-// The marks of a structure whose transactions have none in another one.
-fn new_marks(alloc: Global, votes: &Options, options: &Options) -> Result<Options, Memory>
-    ensures { IfOk result (λ marks. marks ≡ filter (λ e. not (is_some (value_of votes.now e.0))) options.now) }
+// Whether a transaction has no mark among these votes, and is not finished.
+fn is_new<S: FactStore>(store: &S, votes: &Options, tx: TxId) -> bool
+    ensures { (facts : List AFact) → S.stands store.now facts → result ≡ is_new facts votes.now tx }
+{
+    !(votes.mark_of(tx).is_some() || store.finished(tx))
+}
+
+// The marks of a structure whose transactions have none among these votes, and are not finished.
+fn new_marks<S: FactStore>(
+    alloc: Global,
+    store: &S,
+    votes: &Options,
+    options: &Options,
+) -> Result<Options, Memory>
+    ensures { (facts : List AFact) → S.stands store.now facts
+        → IfOk result (λ marks. marks ≡ filter (λ e. is_new facts votes.now e.0) options.now) }
 {
     let mut marks = Options::new(alloc)?;
     for place in 0..options.len() {
         let (tx, mark) = options.at(place);
-        if votes.mark_of(tx).is_none() {
-            marks.insert(tx, mark.copy())?;
+        if is_new(store, votes, tx) {
+            add_mark(&mut marks, tx, mark)?;
         }
     }
     Ok(marks)
 }
 
-// Whether the outcome of a transaction was not heard, and no vote holds a choice of it.
+// Whether a transaction was not heard and is not finished, and no vote holds a choice of it.
 fn is_unknown<S: FactStore>(store: &S, tx: TxId) -> bool
     ensures { (facts : List AFact) → S.stands store.now facts → result ≡ is_unknown facts tx }
 {
-    !store.is_heard(tx) && store.write_set(tx).is_none()
+    !store.is_settled(tx) && store.write_set(tx).is_none()
 }
 
 // Adds a copy of a mark, where its transaction has none.
@@ -67,8 +80,8 @@ fn unknown_marks<S: FactStore>(
     Ok(marks)
 }
 
-// Whether none of some marks of a structure was voted in an instance at a ballot, and so many of
-// the structure were as it has besides.
+// Whether none of some marks of a structure was voted in an instance at a ballot or is finished, and
+// so many of the structure were or are as it has besides.
 fn are_unvoted<S: FactStore>(
     store: &S,
     key: &Key,
@@ -78,15 +91,15 @@ fn are_unvoted<S: FactStore>(
     marks: &Options,
 ) -> bool
     ensures { (facts : List AFact) → S.stands store.now facts
-        → result ≡ (count_voted facts key.now version ballot options.now == length options.now - length marks.now && count_voted facts key.now version ballot marks.now == 0) }
+        → result ≡ (count_past facts key.now version ballot options.now == length options.now - length marks.now && count_past facts key.now version ballot marks.now == 0) }
 {
     let others = options.len().saturating_sub(marks.len());
-    store.count_voted(key, version, ballot, options) == others
-        && store.count_voted(key, version, ballot, marks) == 0
+    store.count_past(key, version, ballot, options) == others
+        && store.count_past(key, version, ballot, marks) == 0
 }
 
-/// The marks of a structure whose transactions were not voted in an instance at a ballot. Most often
-/// they are those of which nothing is known, and then no vote is read.
+/// The marks of a structure whose transactions are not finished and were not voted in an instance at
+/// a ballot. Most often they are those of which nothing is known, and then no vote is read.
 pub(crate) fn unvoted_marks<S: FactStore>(
     alloc: Global,
     store: &S,
@@ -103,7 +116,7 @@ pub(crate) fn unvoted_marks<S: FactStore>(
         return Ok(marks);
     }
     let votes = store.votes(alloc, key, version, ballot)?;
-    new_marks(alloc, &votes, options)
+    new_marks(alloc, store, &votes, options)
 }
 
 // A vote goes to the transaction's centre and, if another, to the ballot's.
@@ -142,8 +155,8 @@ fn vote_message(key: &Key, version: u64, ballot: Ballot, tx: TxId, mark: &Mark) 
     }
 }
 
-// A vote, where the transaction was not heard.
-fn send_unheard<S: FactStore>(
+// A vote, where the transaction is not settled.
+fn send_unsettled<S: FactStore>(
     alloc: Global,
     store: &S,
     from: u8,
@@ -155,15 +168,15 @@ fn send_unheard<S: FactStore>(
     sends: &mut HeapList<Envelope>,
 ) -> Result<(), Memory>
     ensures { (facts : List AFact) → S.stands store.now facts
-        → OnOk result (sends.new ≡ sends.old ++ unheard_sent from facts key.now version ballot (tx, mark.now)) }
+        → OnOk result (sends.new ≡ sends.old ++ unsettled_sent from facts key.now version ballot (tx, mark.now)) }
 {
-    if store.is_heard(tx) {
+    if store.is_settled(tx) {
         return Ok(());
     }
     send_vote(alloc, from, key, version, ballot, tx, mark, sends)
 }
 
-/// The votes on these marks, but for those whose transaction was heard.
+/// The votes on these marks, but for those whose transaction is settled.
 pub(crate) fn send_votes<S: FactStore>(
     alloc: Global,
     store: &S,
@@ -179,7 +192,7 @@ pub(crate) fn send_votes<S: FactStore>(
 {
     for place in 0..marks.len() {
         let (tx, mark) = marks.at(place);
-        send_unheard(alloc, store, from, key, version, ballot, tx, mark, sends)?;
+        send_unsettled(alloc, store, from, key, version, ballot, tx, mark, sends)?;
     }
     Ok(())
 }

@@ -81,6 +81,7 @@ votes_of-next : (fact : Fact) (facts : List Fact) (key : Key) (version : ℕ) (b
 votes_of-next (Fact.Voted key' version' ballot' options offered) facts key version ballot tx =
     votes_given (votes_of facts key version ballot) options tx (version' == version && ballot_eq ballot' ballot && key_eq key' key)
 votes_of-next (Fact.Booted epoch) facts key version ballot tx = value_of-union (votes_of facts key version ballot) [] tx
+votes_of-next (Fact.Floor origin era upto) facts key version ballot tx = value_of-union (votes_of facts key version ballot) [] tx
 votes_of-next (Fact.Promised key' low high ballot') facts key version ballot tx = value_of-union (votes_of facts key version ballot) [] tx
 votes_of-next (Fact.Heard tx' outcome) facts key version ballot tx = value_of-union (votes_of facts key version ballot) [] tx
 votes_of-next (Fact.Adopted key' version' item adds) facts key version ballot tx = value_of-union (votes_of facts key version ballot) [] tx
@@ -96,6 +97,7 @@ cast-next centre (Fact.Voted key' version' ballot' options offered) key version 
     both true b o = refl
     both false b o = refl
 cast-next centre (Fact.Booted epoch) key version ballot tx a = grind arith
+cast-next centre (Fact.Floor origin era upto) key version ballot tx a = grind arith
 cast-next centre (Fact.Promised key' low high ballot') key version ballot tx a = grind arith
 cast-next centre (Fact.Heard tx' outcome) key version ballot tx a = grind arith
 cast-next centre (Fact.Adopted key' version' item adds) key version ballot tx a = grind arith

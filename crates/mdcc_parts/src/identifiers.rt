@@ -5,6 +5,7 @@ ghost use Rattle.mdcc_base.specs.Key.{is_key_byte, key_eq, key_lt};
 ghost use Rattle.mdcc_base.specs.TxId.{tx_eq, tx_lt};
 ghost use Rattle.mdcc_messages.specs.ReadingSteps.{u64_at, checked, same, fault_unless_after, is_after};
 ghost use Rattle.mdcc_messages.specs.ReadingParts.{key_by, key_at, tx_at, tx_behind, ballot_from, ballot_at, classic_at};
+ghost use Rattle.mdcc_messages.specs.Reading.{numbers_at};
 
 use crate::numbers::{run_at, truncated, u8_within, u32_within, u64_at};
 use mdcc_base::key::is_key_byte;
@@ -52,6 +53,18 @@ pub fn read_tx(bytes: &[u8], at: usize) -> Result<(TxId, usize), WireFault>
     let (seq, after) = u32_within(at, 1, u32::MAX, bytes, after)?;
     let centre = Centre::new(number).unwrap();
     Ok((TxId { centre, epoch, seq }, after))
+}
+
+/// A centre, an epoch and a number of a transaction at a place. Other than in an identifier, each is
+/// refused at its own place.
+pub fn read_numbers(bytes: &[u8], at: usize) -> Result<((Centre, u32, u32), usize), WireFault>
+    ensures { result ≡ numbers_at bytes.now at }
+{
+    let (number, epoch_at) = u8_within(at, 1, 9, bytes, at)?;
+    let (epoch, seq_at) = u32_within(epoch_at, 1, u32::MAX, bytes, epoch_at)?;
+    let (seq, after) = u32_within(seq_at, 1, u32::MAX, bytes, seq_at)?;
+    let centre = Centre::new(number).unwrap();
+    Ok(((centre, epoch, seq), after))
 }
 
 // The ballot at a place, with at least this round.

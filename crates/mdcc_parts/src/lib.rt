@@ -9,7 +9,7 @@ pub mod marks;
 pub mod numbers;
 
 pub use choices::{read_choice, read_write_set};
-pub use identifiers::{read_ballot, read_key, read_tx};
+pub use identifiers::{read_ballot, read_key, read_numbers, read_tx};
 pub use items::{read_amounts, read_delta, read_item, read_seen, read_update};
 pub use marks::{check_options, read_entry, read_options};
 pub use mdcc_append::{

@@ -1,1 +1,2 @@
 pub mod EnoughPromises
+pub mod Plain

@@ -1,5 +1,5 @@
 -- The acceptor: what it answers to a proposal at the fast ballot, to a leader that asks for promises, and to a leader's structure. (Fast Paxos; MDCC. That an acceptor gives no vote at a passed share, or where an instance is full, is our own rule.)
-use Rattle.std.specs.Prelude.{List, None, Option, Some, [], filter, if◌then◌else◌, is_some, nat_le, nat_lt, not, ℕ, ◌∷◌}
+use Rattle.std.specs.Prelude.{List, None, Option, Some, [], filter, if◌then◌else◌, is_some, nat_le, nat_lt, not, ℕ, ◌||◌, ◌∷◌}
 use Rattle.mdcc_base.specs.Ballot.{ballot_lt, is_fast}
 use Rattle.mdcc_base.specs.declared.identifiers.Ballot.{Ballot}
 use Rattle.mdcc_base.specs.declared.key.Key.{Key}
@@ -10,7 +10,7 @@ use Rattle.mdcc_option.specs.declared.choices.Outcome.{Outcome}
 use Rattle.mdcc_option.specs.declared.cluster.Cluster.{Cluster}
 use Rattle.mdcc_struct.specs.Maps.{value_of}
 use Rattle.mdcc_struct.specs.declared.options.Options.{Options}
-use Rattle.mdcc_protocol.specs.Facts.{base_of, current_of, entries_of, heard_of, live_of, promise_of, promised_through, vote_of, votes_of}
+use Rattle.mdcc_protocol.specs.Facts.{base_of, current_of, entries_of, is_finished, live_of, outcome_kept, promise_of, promised_through, vote_of, votes_of}
 use Rattle.mdcc_protocol.specs.Fit.{fast_fit, load_of}
 use Rattle.mdcc_protocol.specs.Marks.{seen_in}
 use Rattle.mdcc_protocol.specs.Structures.{accept_room, reject_room}
@@ -62,16 +62,22 @@ answer_to_new cluster facts choice =
     if nat_lt (current_of facts choice.key) choice.version then ProposeAnswer.Escalate Cause.Behind
     else answer_by_promise cluster facts choice (promise_of facts choice.key choice.version)
 
--- by what was heard of the transaction, and then by what was voted on it in the instance
-abbrev pub answer_after : Cluster → List Fact → Choice → Option Outcome → Option (Ballot × Mark) → ProposeAnswer
-answer_after cluster facts choice (Some outcome) vote = ProposeAnswer.Known outcome
-answer_after cluster facts choice None (Some vote) = ProposeAnswer.Again vote.0 vote.1
-answer_after cluster facts choice None None = answer_to_new cluster facts choice
+-- by what was voted on its transaction in the instance
+abbrev pub answer_by_vote : Cluster → List Fact → Choice → Option (Ballot × Mark) → ProposeAnswer
+answer_by_vote cluster facts choice (Some vote) = ProposeAnswer.Again vote.0 vote.1
+answer_by_vote cluster facts choice None = answer_to_new cluster facts choice
+
+-- by what is kept of the transaction's outcome, and then by whether it is finished
+abbrev pub answer_after : Cluster → List Fact → Choice → Option Outcome → ProposeAnswer
+answer_after cluster facts choice (Some outcome) = ProposeAnswer.Known outcome
+answer_after cluster facts choice None =
+    if is_finished facts choice.tx then ProposeAnswer.Finished
+    else answer_by_vote cluster facts choice (vote_of facts choice.key choice.version choice.tx)
 
 -- what an acceptor answers to a proposal
 abbrev pub on_propose : Cluster → List Fact → Choice → ProposeAnswer
 on_propose cluster facts choice =
-    answer_after cluster facts choice (heard_of facts choice.tx) (vote_of facts choice.key choice.version choice.tx)
+    answer_after cluster facts choice (outcome_kept facts choice.tx)
 
 -- ---- promises
 
@@ -93,11 +99,11 @@ on_prepare facts key version through ballot =
 
 -- ---- structures
 
--- the marks of a structure whose transactions have no vote here at its ballot
+-- the marks of a structure whose transactions are not finished and have no vote here at its ballot
 abbrev pub new_marks : List Fact → Key → ℕ → Ballot → Options → Options
 new_marks facts key version ballot options =
     let votes = votes_of facts key version ballot in
-    filter (λ e. not (is_some (value_of votes e.0))) options
+    filter (λ e. not (is_some (value_of votes e.0) || is_finished facts e.0)) options
 
 abbrev pub answer_to_marks : Options → AcceptAnswer
 answer_to_marks [] = AcceptAnswer.Older

@@ -1,6 +1,6 @@
 -- Whether the centres, attributes and numbers of values in a message or a fact are of the cluster.
 use Rattle.std.specs.List.{list_all}
-use Rattle.std.specs.Prelude.{Bool, List, None, Option, Some, length, nat_le, true, ℕ, ◌&&◌, ◌==◌, ◌||◌}
+use Rattle.std.specs.Prelude.{Bool, List, None, Option, Some, length, nat_le, true, ℕ, ◌&&◌, ◌==◌, ◌||◌, false}
 use Rattle.mdcc_base.specs.Ballot.{is_fast}
 use Rattle.mdcc_base.specs.declared.identifiers.Ballot.{Ballot}
 use Rattle.mdcc_base.specs.declared.identifiers.TxId.{TxId}
@@ -82,6 +82,8 @@ fact_belongs cluster (Fact.Voted key version ballot options offered) =
     ballot_belongs cluster ballot && options_belong cluster options && offered_belongs cluster offered
 fact_belongs cluster (Fact.Heard tx outcome) = tx_belongs cluster tx && outcome_belongs cluster outcome
 fact_belongs cluster (Fact.Adopted key version item adds) = item_belongs cluster item && adds_belong cluster adds
+-- no centre of this program sets a floor yet
+fact_belongs cluster (Fact.Floor centre epoch seq) = false
 
 -- ---- messages
 
@@ -118,3 +120,5 @@ message_belongs cluster (Message.SyncGive key version item adds) = item_belongs 
 message_belongs cluster (Message.ClientRead serial key) = true
 message_belongs cluster (Message.ClientBegin serial parts) = list_all (λ part. update_belongs cluster part.update) parts
 message_belongs cluster (Message.ClientAnswer serial answer) = client_answer_belongs cluster answer
+message_belongs cluster (Message.Mark centre epoch seq) = is_centre cluster centre
+message_belongs cluster (Message.Finished tx) = tx_belongs cluster tx

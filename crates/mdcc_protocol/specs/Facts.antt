@@ -1,7 +1,8 @@
 -- The facts of one centre, the newest first, and what they say: epochs, promises, votes, outcomes, and what the centre holds.
 -- Each question is asked of one fact, and then of all. Where the first of several facts counts, the older ones stand on the left.
 use Rattle.std.specs.Option.{option_or}
-use Rattle.std.specs.Prelude.{Bool, List, None, Option, Some, [], filter, filter_map, fold, if◌then◌else◌, is_some, length, map, max, nat_le, not, option_and_then, option_map, ℕ, ◌&&◌, ◌++◌, ◌==◌, ◌∷◌}
+use Rattle.std.specs.List.{list_any}
+use Rattle.std.specs.Prelude.{Bool, List, None, Option, Some, [], false, filter, filter_map, fold, if◌then◌else◌, is_some, length, map, max, nat_le, nat_lt, not, option_and_then, option_map, suc, true, zero, ℕ, ◌&&◌, ◌++◌, ◌+◌, ◌==◌, ◌||◌, ◌∷◌}
 use Rattle.mdcc_base.specs.Ballot.{ballot_eq, ballot_lt, ballot_max, fast_ballot, is_fast}
 use Rattle.mdcc_base.specs.Key.{key_eq}
 use Rattle.mdcc_base.specs.TxId.{tx_eq}
@@ -52,70 +53,6 @@ abbrev pub promised_through : List Fact → Key → ℕ → Ballot → Option �
 promised_through [] key version ballot = None
 promised_through (fact ∷ facts) key version ballot = option_or (promised_through facts key version ballot) (range_promised key version ballot fact)
 
--- ---- votes
-
--- the marks that a fact votes in an instance at a ballot
-abbrev pub marks_voted : Key → ℕ → Ballot → Fact → Options
-marks_voted key version ballot (Fact.Voted key' version' ballot' options offered) =
-    if version' == version && ballot_eq ballot' ballot && key_eq key' key then options else []
-marks_voted key version ballot _ = []
-
--- all marks that were voted there. (Generalized Paxos.)
-abbrev pub votes_of : List Fact → Key → ℕ → Ballot → Options
-votes_of [] key version ballot = []
-votes_of (fact ∷ facts) key version ballot = union (votes_of facts key version ballot) (marks_voted key version ballot fact)
-
--- the ballot at which a fact votes in an instance, where it is below another one; else the fast one
-abbrev pub ballot_voted : Key → ℕ → Ballot → Fact → Ballot
-ballot_voted key version below (Fact.Voted key' version' ballot options offered) =
-    if version' == version && ballot_lt ballot below && key_eq key' key then ballot else fast_ballot
-ballot_voted key version below _ = fast_ballot
-
--- the greatest ballot below another one at which there is a vote in the instance
-abbrev pub last_ballot : List Fact → Key → ℕ → Ballot → Ballot
-last_ballot [] key version below = fast_ballot
-last_ballot (fact ∷ facts) key version below = ballot_max (last_ballot facts key version below) (ballot_voted key version below fact)
-
--- what a centre reports to a leader: the votes at the greatest ballot below the leader's. Below the fast one there is none. (Fast Paxos.)
-abbrev pub report_of : ℕ → List Fact → Key → ℕ → Ballot → Report
-report_of centre facts key version below =
-    let ballot = last_ballot facts key version below in
-    record { centre = centre; ballot = ballot; votes = if is_fast below then [] else votes_of facts key version ballot }
-
--- the mark that a fact votes of a transaction in an instance, with its ballot
-abbrev pub mark_voted : Key → ℕ → TxId → Fact → Option (Ballot × Mark)
-mark_voted key version tx (Fact.Voted key' version' ballot options offered) =
-    if version' == version && key_eq key' key then option_map (λ mark. (ballot, mark)) (value_of options tx) else None
-mark_voted key version tx _ = None
-
--- the second vote where its ballot is greater, else the first
-abbrev pub later_vote : Option (Ballot × Mark) → Option (Ballot × Mark) → Option (Ballot × Mark)
-later_vote None b = b
-later_vote (Some a) None = Some a
-later_vote (Some a) (Some b) = if ballot_lt a.0 b.0 then Some b else Some a
-
--- the vote on a transaction in an instance at the greatest ballot at which it was voted
-abbrev pub vote_of : List Fact → Key → ℕ → TxId → Option (Ballot × Mark)
-vote_of [] key version tx = None
-vote_of (fact ∷ facts) key version tx = later_vote (vote_of facts key version tx) (mark_voted key version tx fact)
-
--- the choice where it is the transaction's
-abbrev pub choice_of_tx : TxId → Choice → Option Choice
-choice_of_tx tx choice = if tx_eq choice.tx tx then Some choice else None
-
--- the choice of a transaction that a fact has in an instance, accepted or offered
-abbrev pub choice_voted : Key → ℕ → TxId → Fact → Option Choice
-choice_voted key version tx (Fact.Voted key' version' ballot options offered) =
-    if version' == version && key_eq key' key
-    then option_or (option_and_then choice_in (value_of options tx)) (option_and_then (choice_of_tx tx) offered)
-    else None
-choice_voted key version tx _ = None
-
--- the first such choice
-abbrev pub choice_known : List Fact → Key → ℕ → TxId → Option Choice
-choice_known [] key version tx = None
-choice_known (fact ∷ facts) key version tx = option_or (choice_known facts key version tx) (choice_voted key version tx fact)
-
 -- ---- outcomes that were heard
 
 abbrev pub outcome_in : TxId → Fact → Option Outcome
@@ -130,11 +67,7 @@ heard_of (fact ∷ facts) tx = option_or (heard_of facts tx) (outcome_in tx fact
 abbrev pub is_heard : List Fact → TxId → Bool
 is_heard facts tx = is_some (heard_of facts tx)
 
--- a transaction that was heard aborted is void
-abbrev pub is_void : List Fact → TxId → Bool
-is_void facts tx = is_abort (heard_of facts tx)
-
--- ---- what the centre holds
+-- ---- the version that the centre holds
 
 -- the version that a committed choice gives a key; 0 where it gives none
 abbrev pub version_given : Key → Choice → ℕ
@@ -150,6 +83,170 @@ version_from key _ = 0
 abbrev pub current_of : List Fact → Key → ℕ
 current_of [] key = 0
 current_of (fact ∷ facts) key = max (current_of facts key) (version_from key fact)
+
+-- ---- what all centres have heard
+
+-- the number that a fact sets as the floor of an epoch of a centre
+abbrev pub floor_set : ℕ → ℕ → Fact → ℕ
+floor_set centre epoch (Fact.Floor centre' epoch' seq) = if centre' == centre && epoch' == epoch then seq else 0
+floor_set centre epoch _ = 0
+
+-- the floor: all centres have heard the transactions of the epoch from the first through this one. (Our own rule.)
+abbrev pub floor_of : List Fact → ℕ → ℕ → ℕ
+floor_of [] centre epoch = 0
+floor_of (fact ∷ facts) centre epoch = max (floor_of facts centre epoch) (floor_set centre epoch fact)
+
+abbrev pub is_floor : Fact → Bool
+is_floor (Fact.Floor centre epoch seq) = true
+is_floor _ = false
+
+-- whether the centre has set a floor
+abbrev pub has_floor : List Fact → Bool
+has_floor facts = list_any is_floor facts
+
+-- a transaction through the floor is finished
+abbrev pub is_finished : List Fact → TxId → Bool
+is_finished facts tx = nat_lt 0 tx.seq && nat_le tx.seq (floor_of facts tx.centre tx.epoch)
+
+-- it was heard, or is finished, so that its outcome is known everywhere
+abbrev pub is_settled : List Fact → TxId → Bool
+is_settled facts tx = is_heard facts tx || is_finished facts tx
+
+-- whether each transaction of an epoch from the first through this number was heard
+abbrev pub are_heard : List Fact → ℕ → ℕ → ℕ → Bool
+are_heard facts centre epoch zero = true
+are_heard facts centre epoch (suc n) = is_heard facts (record { centre = centre; epoch = epoch; seq = suc n }) && are_heard facts centre epoch n
+
+-- from a number on, as far as each transaction is settled, and by at most so many
+abbrev pub settled_after : List Fact → ℕ → ℕ → ℕ → ℕ → ℕ
+settled_after facts centre epoch zero n = n
+settled_after facts centre epoch (suc more) n =
+    if is_settled facts (record { centre = centre; epoch = epoch; seq = n + 1 }) then settled_after facts centre epoch more (n + 1) else n
+
+-- the greatest number through which each transaction of the epoch was heard or is finished; each one above the floor has a fact of its own
+abbrev pub heard_through_of : List Fact → ℕ → ℕ → ℕ
+heard_through_of facts centre epoch = settled_after facts centre epoch (length facts) (floor_of facts centre epoch)
+
+-- ---- marks that are forgotten
+
+-- the marks of a finished transaction in instances below the version held are forgotten. (Our own rule.)
+abbrev pub is_forgotten : List Fact → Key → ℕ → TxId → Bool
+is_forgotten facts key version tx = is_finished facts tx && nat_lt version (current_of facts key)
+
+-- without them
+abbrev pub without_forgotten : List Fact → Key → ℕ → Options → Options
+without_forgotten facts key version options = filter (λ e. not (is_forgotten facts key version e.0)) options
+
+-- ---- votes
+
+-- the marks that a fact votes in an instance at a ballot
+abbrev pub marks_voted : Key → ℕ → Ballot → Fact → Options
+marks_voted key version ballot (Fact.Voted key' version' ballot' options offered) =
+    if version' == version && ballot_eq ballot' ballot && key_eq key' key then options else []
+marks_voted key version ballot _ = []
+
+-- all marks that were voted there. (Generalized Paxos.)
+abbrev pub votes_of : List Fact → Key → ℕ → Ballot → Options
+votes_of [] key version ballot = []
+votes_of (fact ∷ facts) key version ballot = union (votes_of facts key version ballot) (marks_voted key version ballot fact)
+
+-- the votes at a ballot that are not forgotten
+abbrev pub shown_of : List Fact → Key → ℕ → Ballot → Options
+shown_of facts key version ballot = without_forgotten facts key version (votes_of facts key version ballot)
+
+-- the ballot at which a fact votes in an instance, where it is below another one; else the fast one
+abbrev pub ballot_voted : Key → ℕ → Ballot → Fact → Ballot
+ballot_voted key version below (Fact.Voted key' version' ballot options offered) =
+    if version' == version && ballot_lt ballot below && key_eq key' key then ballot else fast_ballot
+ballot_voted key version below _ = fast_ballot
+
+-- the greatest ballot below another one at which there is a vote in the instance
+abbrev pub last_ballot : List Fact → Key → ℕ → Ballot → Ballot
+last_ballot [] key version below = fast_ballot
+last_ballot (fact ∷ facts) key version below = ballot_max (last_ballot facts key version below) (ballot_voted key version below fact)
+
+-- what a centre reports to a leader: the greatest ballot below the leader's at which it voted, also where all its marks there are
+-- forgotten, and the marks there that are not. Below the fast one there is none. (Fast Paxos; that marks are forgotten is our own rule.)
+abbrev pub report_of : ℕ → List Fact → Key → ℕ → Ballot → Report
+report_of centre facts key version below =
+    let ballot = last_ballot facts key version below in
+    record { centre = centre; ballot = ballot; votes = if is_fast below then [] else shown_of facts key version ballot }
+
+-- the mark that a fact votes of a transaction in an instance, with its ballot
+abbrev pub mark_voted : Key → ℕ → TxId → Fact → Option (Ballot × Mark)
+mark_voted key version tx (Fact.Voted key' version' ballot options offered) =
+    if version' == version && key_eq key' key then option_map (λ mark. (ballot, mark)) (value_of options tx) else None
+mark_voted key version tx _ = None
+
+-- the second vote where its ballot is greater, else the first
+abbrev pub later_vote : Option (Ballot × Mark) → Option (Ballot × Mark) → Option (Ballot × Mark)
+later_vote None b = b
+later_vote (Some a) None = Some a
+later_vote (Some a) (Some b) = if ballot_lt a.0 b.0 then Some b else Some a
+
+-- the vote on a transaction in an instance at the greatest ballot at which it was voted
+abbrev pub last_vote : List Fact → Key → ℕ → TxId → Option (Ballot × Mark)
+last_vote [] key version tx = None
+last_vote (fact ∷ facts) key version tx = later_vote (last_vote facts key version tx) (mark_voted key version tx fact)
+
+-- the same, unless it is forgotten
+abbrev pub vote_of : List Fact → Key → ℕ → TxId → Option (Ballot × Mark)
+vote_of facts key version tx = if is_forgotten facts key version tx then None else last_vote facts key version tx
+
+-- the choice where it is the transaction's
+abbrev pub choice_of_tx : TxId → Choice → Option Choice
+choice_of_tx tx choice = if tx_eq choice.tx tx then Some choice else None
+
+-- the choice of a transaction that a fact has in an instance, accepted or offered
+abbrev pub choice_voted : Key → ℕ → TxId → Fact → Option Choice
+choice_voted key version tx (Fact.Voted key' version' ballot options offered) =
+    if version' == version && key_eq key' key
+    then option_or (option_and_then choice_in (value_of options tx)) (option_and_then (choice_of_tx tx) offered)
+    else None
+choice_voted key version tx _ = None
+
+-- the first such choice
+abbrev pub first_choice : List Fact → Key → ℕ → TxId → Option Choice
+first_choice [] key version tx = None
+first_choice (fact ∷ facts) key version tx = option_or (first_choice facts key version tx) (choice_voted key version tx fact)
+
+-- the same, unless its mark is forgotten
+abbrev pub choice_known : List Fact → Key → ℕ → TxId → Option Choice
+choice_known facts key version tx = if is_forgotten facts key version tx then None else first_choice facts key version tx
+
+-- ---- what is void
+
+-- whether a fact shows a mark of the transaction
+abbrev pub shows_mark : List Fact → TxId → Fact → Bool
+shows_mark facts tx (Fact.Voted key version ballot options offered) = is_some (value_of options tx) && not (is_forgotten facts key version tx)
+shows_mark facts tx _ = false
+
+-- a committed choice is needed where it is the Write that gave the version held, or an Add on that version or a later one
+abbrev pub is_needed : List Fact → Choice → Bool
+is_needed facts choice =
+    if is_write choice.update then next_version choice.version == current_of facts choice.key
+    else nat_le (current_of facts choice.key) choice.version
+
+-- whether an outcome was heard of which no choice is needed
+abbrev pub is_past : List Fact → Option Outcome → Bool
+is_past facts None = false
+is_past facts (Some Outcome.Abort) = true
+is_past facts (Some (Outcome.Commit choices)) = not (list_any (is_needed facts) choices)
+
+-- what was heard of a transaction is idle where the transaction is finished, no mark of it is shown, and none of its choices is needed. (Our own rule.)
+abbrev pub is_idle : List Fact → TxId → Bool
+is_idle facts tx =
+    is_finished facts tx && is_past facts (heard_of facts tx) && not (list_any (shows_mark facts tx) facts)
+
+-- the outcome that was heard, unless it is idle
+abbrev pub outcome_kept : List Fact → TxId → Option Outcome
+outcome_kept facts tx = if is_idle facts tx then None else heard_of facts tx
+
+-- a transaction that was heard aborted is void, and one of which what was heard is idle
+abbrev pub is_void : List Fact → TxId → Bool
+is_void facts tx = is_abort (heard_of facts tx) || is_idle facts tx
+
+-- ---- what the centre holds
 
 abbrev pub item_written : Update → Option Item
 item_written (Update.Write item seen) = Some item
@@ -212,24 +309,25 @@ token_of facts key =
 abbrev pub live_mark : TxId × Mark → Option (TxId × Update)
 live_mark e = option_map (λ choice. (e.0, choice.update)) (choice_in e.1)
 
--- the updates that a fact makes live in an instance: accepted votes and executed deltas
-abbrev pub live_from : Key → ℕ → Fact → TxMap Update
-live_from key version (Fact.Voted key' version' ballot options offered) =
-    if version' == version && key_eq key' key then filter_map live_mark options else []
-live_from key version fact = map (λ e. (e.0, Update.Add e.1)) (deltas_from key version fact)
+-- the updates that a fact makes live in an instance: accepted votes that are shown, and executed deltas
+abbrev pub live_from : (TxId → Bool) → Key → ℕ → Fact → TxMap Update
+live_from is_gone key version (Fact.Voted key' version' ballot options offered) =
+    if version' == version && key_eq key' key then filter_map live_mark (filter (λ e. not (is_gone e.0)) options) else []
+live_from is_gone key version fact = map (λ e. (e.0, Update.Add e.1)) (deltas_from key version fact)
 
-abbrev pub live_and_void : List Fact → Key → ℕ → TxMap Update
-live_and_void [] key version = []
-live_and_void (fact ∷ facts) key version = union (live_and_void facts key version) (live_from key version fact)
+abbrev pub live_and_void : (TxId → Bool) → List Fact → Key → ℕ → TxMap Update
+live_and_void is_gone [] key version = []
+live_and_void is_gone (fact ∷ facts) key version = union (live_and_void is_gone facts key version) (live_from is_gone key version fact)
 
 -- the live choices of an instance, each transaction once: those that may still be in the item's value
 abbrev pub live_of : List Fact → Key → ℕ → TxMap Update
-live_of facts key version = filter (λ e. not (is_void facts e.0)) (live_and_void facts key version)
+live_of facts key version =
+    filter (λ e. not (is_void facts e.0)) (live_and_void (is_forgotten facts key version) facts key version)
 
--- how many marks accept and how many reject in an instance at the fast ballot
+-- how many marks that are shown accept and how many reject in an instance at the fast ballot
 abbrev pub entries_of : List Fact → Key → ℕ → ℕ × ℕ
 entries_of facts key version =
-    let votes = votes_of facts key version fast_ballot in
+    let votes = shown_of facts key version fast_ballot in
     (length (accepts_in votes), length (rejects_in votes))
 
 -- ---- transactions that are not resolved
@@ -247,6 +345,6 @@ abbrev pub write_sets_of : List Fact → TxMap (List (Key × ℕ))
 write_sets_of [] = []
 write_sets_of (fact ∷ facts) = union (write_sets_of facts) (write_sets_from fact)
 
--- those that were not heard, ascending
+-- those that were neither heard nor are finished, ascending. Of these no mark is forgotten
 abbrev pub unresolved_of : List Fact → TxMap (List (Key × ℕ))
-unresolved_of facts = filter (λ e. not (is_heard facts e.0)) (write_sets_of facts)
+unresolved_of facts = filter (λ e. not (is_settled facts e.0)) (write_sets_of facts)

@@ -1,13 +1,16 @@
 pub mod Acceptor
 pub mod Belongs
+pub mod Cells
 pub mod Facts
 pub mod Fit
+pub mod Floors
 pub mod IsCluster
 pub mod Leader
 pub mod Learner
 pub mod Manager
 pub mod Marks
 pub mod News
+pub mod Plain
 pub mod Recover
 pub mod Stores
 pub mod Structures

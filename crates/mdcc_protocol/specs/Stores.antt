@@ -9,7 +9,7 @@ use Rattle.mdcc_option.specs.declared.choices.Mark.{Mark}
 use Rattle.mdcc_option.specs.declared.items.Delta.{Delta}
 use Rattle.mdcc_struct.specs.Maps.{value_of}
 use Rattle.mdcc_struct.specs.declared.options.Options.{Options}
-use Rattle.mdcc_protocol.specs.Facts.{entries_of, executed_of, heard_of, live_of, report_of, unresolved_of, votes_of}
+use Rattle.mdcc_protocol.specs.Facts.{entries_of, executed_of, live_of, outcome_kept, report_of, unresolved_of, votes_of}
 use Rattle.mdcc_protocol.specs.Fit.{capped, load_of}
 use Rattle.mdcc_protocol.specs.Marks.{is_commit}
 use Rattle.mdcc_messages.specs.declared.facts.Fact.{Fact}
@@ -52,9 +52,9 @@ count_voted facts key version ballot options =
     let votes = votes_of facts key version ballot in
     number_of (λ e. is_some (value_of votes e.0)) options
 
--- whether the outcome that was heard of a transaction is a commit
+-- whether the outcome that is kept of a transaction is a commit
 abbrev pub ended_of : List Fact → TxId → Option Bool
-ended_of facts tx = option_map is_commit (heard_of facts tx)
+ended_of facts tx = option_map is_commit (outcome_kept facts tx)
 
 -- the unresolved transaction at a place, with its write set
 abbrev pub unresolved_at : List Fact → ℕ → Option (TxId × List (Key × ℕ))

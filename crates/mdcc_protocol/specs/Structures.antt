@@ -13,7 +13,7 @@ use Rattle.mdcc_struct.specs.Forced.{forced_of}
 use Rattle.mdcc_struct.specs.Maps.{TxMap, union, value_of, with_entry}
 use Rattle.mdcc_struct.specs.declared.options.Options.{Options}
 use Rattle.mdcc_struct.specs.declared.report.Report.{Report}
-use Rattle.mdcc_protocol.specs.Facts.{base_of, current_of, deltas_at, is_void, live_mark}
+use Rattle.mdcc_protocol.specs.Facts.{base_of, current_of, deltas_at, is_settled, is_void, live_mark}
 use Rattle.mdcc_protocol.specs.Fit.{are_within_room, exact_fit, is_fitting, load_of, parts_of}
 use Rattle.mdcc_protocol.specs.Marks.{accepts_in, choice_in, is_write, rejects_in, seen_in}
 use Rattle.mdcc_messages.specs.declared.facts.Fact.{Fact}
@@ -56,10 +56,11 @@ abbrev pub is_left_out : Options → Mark → Bool
 is_left_out options (Mark.Accept choice) = false
 is_left_out options Mark.Reject = nat_le reject_room (length (rejects_in options))
 
--- the structure with a claim marked; a claim that is in it stays as it is marked
+-- the structure with a claim marked. A claim that is in it stays as it is marked, and one whose transaction the leader heard, or
+-- that is finished, is left out: all centres may have forgotten its mark (our own rule)
 abbrev pub with_claim : Cluster → List Fact → Key → ℕ → Options → TxId × Option Choice → Options
 with_claim cluster facts key version options (tx, choice) =
-    if is_some (value_of options tx) then options
+    if is_some (value_of options tx) || is_settled facts tx then options
     else (let mark = mark_of_choice cluster facts key version options choice in
     if is_left_out options mark then options else with_entry options (tx, mark))
 
@@ -93,16 +94,12 @@ abbrev pub is_add_accepted : TxId × Mark → Bool
 is_add_accepted (tx, Mark.Accept choice) = not (is_write choice.update)
 is_add_accepted (tx, Mark.Reject) = false
 
--- the accepted choices among forced marks, without the void ones
-abbrev pub live_forced : List Fact → Options → TxMap Update
-live_forced facts marks = filter (λ e. not (is_void facts e.0)) (filter_map live_mark marks)
-
 -- forced marks fit together where no Add is accepted among them, or where the leader holds that very version and at each
--- quantity the sum over their accepted Adds, without the void ones, is within the room. (Our own rule.)
+-- quantity the sum over what is live at it with them is within the room. (Our own rule.)
 abbrev pub fit_together : Cluster → List Fact → Key → ℕ → Options → Bool
 fit_together cluster facts key version marks =
     not (list_any is_add_accepted marks)
-    || (current_of facts key == version && are_within_room cluster (base_of facts key) (load_of (live_forced facts marks) []))
+    || (current_of facts key == version && are_within_room cluster (base_of facts key) (load_of (live_at_leader facts key version marks) []))
 
 -- the promises of a classic quorum are enough where what they force fits together, and others where they are so many that it
 -- does by the votes' limit: under the safe limit as many as a classic quorum has, under the wider one those of all centres

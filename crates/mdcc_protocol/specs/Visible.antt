@@ -7,7 +7,7 @@ use Rattle.mdcc_option.specs.OneCopy.{amount_at, read_value}
 use Rattle.mdcc_option.specs.declared.choices.Outcome.{Outcome}
 use Rattle.mdcc_option.specs.declared.items.Item.{Item}
 use Rattle.mdcc_struct.specs.Maps.{TxMap}
-use Rattle.mdcc_protocol.specs.Facts.{base_of, current_of, executed_of, is_heard, token_of}
+use Rattle.mdcc_protocol.specs.Facts.{base_of, current_of, executed_of, is_settled, token_of}
 use Rattle.mdcc_protocol.specs.Marks.{Amounts}
 use Rattle.mdcc_protocol.specs.News.{is_news}
 use Rattle.mdcc_messages.specs.declared.facts.Fact.{Fact}
@@ -16,9 +16,9 @@ use Rattle.mdcc_protocol.specs.declared.visible.Reading.{Reading}
 
 -- ---- outcomes
 
--- the fact of an outcome that was not heard before
+-- the fact of an outcome that was not heard before, of a transaction that is not finished
 abbrev pub on_outcome : List Fact → TxId → Outcome → Option Fact
-on_outcome facts tx outcome = if is_heard facts tx then None else Some (Fact.Heard tx outcome)
+on_outcome facts tx outcome = if is_settled facts tx then None else Some (Fact.Heard tx outcome)
 
 -- ---- reads
 

@@ -139,12 +139,22 @@ abbrev pub recovery_closed : Recovering → TxId → Recovering
 recovery_closed recovery tx =
     record { counters = filter (λ e. not (tx_eq e.0 tx)) recovery.counters; votes = without_tx recovery.votes tx }
 
+-- ---- floors
+
+-- the greatest mark that a centre told of an epoch of a centre; it is lost in a crash
+pub record Marked : Type 0 where
+  pub from : ℕ
+  pub centre : ℕ
+  pub epoch : ℕ
+  pub seq : ℕ
+
 -- ---- all of it
 
 pub record Volatile : Type 0 where
   pub manager : Managing
   pub leader : Leading
   pub recovery : Recovering
+  pub told : List Marked
 
 -- what a node keeps when it is booted
 abbrev pub initial_volatile : Volatile
@@ -152,6 +162,7 @@ initial_volatile = record {
   manager = record { seq = 0; opened = []; votes = [] };
   leader = record { leads = []; refused_rounds = []; last_rounds = [] };
   recovery = record { counters = []; votes = [] };
+  told = [];
 }
 
 abbrev pub with_manager : Volatile → Managing → Volatile
@@ -162,6 +173,9 @@ with_leader volatile leader = record volatile { leader = leader }
 
 abbrev pub with_recovery : Volatile → Recovering → Volatile
 with_recovery volatile recovery = record volatile { recovery = recovery }
+
+abbrev pub with_told : Volatile → List Marked → Volatile
+with_told volatile told = record volatile { told = told }
 
 -- the transaction is closed in both roles that may have it
 abbrev pub closed : Volatile → TxId → Volatile

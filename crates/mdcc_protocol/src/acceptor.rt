@@ -7,6 +7,8 @@ use mdcc_option::{Cause, Mark, Outcome};
 pub enum ProposeAnswer {
     /// It heard how the transaction ended.
     Known(Outcome),
+    /// All centres have heard how the transaction ended, and it has given the outcome back.
+    Finished,
     /// It voted on the transaction before, at this ballot as its last one.
     Again(Ballot, Mark),
     /// It gives no vote.

@@ -15,7 +15,7 @@ use Rattle.mdcc_option.specs.declared.faults.BeginFault.{BeginFault}
 use Rattle.mdcc_option.specs.declared.items.Part.{Part}
 use Rattle.mdcc_struct.specs.declared.options.Options.{Options}
 use Rattle.mdcc_protocol.specs.Acceptor.{on_accept, on_prepare, on_propose}
-use Rattle.mdcc_protocol.specs.Facts.{epoch_of, heard_of, is_heard, vote_of}
+use Rattle.mdcc_protocol.specs.Facts.{epoch_of, is_finished, is_settled, outcome_kept, vote_of}
 use Rattle.mdcc_protocol.specs.Leader.{lead}
 use Rattle.mdcc_protocol.specs.Manager
 use Rattle.mdcc_protocol.specs.News.{is_crowding}
@@ -35,7 +35,7 @@ use Rattle.mdcc_protocol.specs.declared.votes.Vote.{Vote}
 use Rattle.mdcc_ledger.specs.Ledger.{Added, Entry, Valued}
 use Rattle.mdcc_messages.specs.declared.facts.Fact.{Fact}
 use Rattle.mdcc_messages.specs.declared.messages.Message.{Message}
-use Rattle.mdcc_rules.specs.AcceptorRules.{accepted_step, ask_step_by, prepared_step, proposed_step}
+use Rattle.mdcc_rules.specs.AcceptorRules.{accepted_step, ask_step_after, ask_step_by, prepared_step, proposed_step}
 use Rattle.mdcc_rules.specs.LeaderRules.{lead_step_after, led_by_answer, led_of, promised_by_answer, step_of_led}
 use Rattle.mdcc_rules.specs.ManagerRules.{begin_step_by, opened_step, undecided_step, voted_step, watched_step}
 use Rattle.mdcc_rules.specs.Node.{checked, is_own_message, is_without_room, message_step, step_of, with_room}
@@ -67,6 +67,7 @@ either false step other h k = k
 
 proposed : (me : ℕ) (volatile : Volatile) (s : ℕ) (choice : Choice) (answer : ProposeAnswer) → NoFacts (proposed_step me volatile s choice answer).entries
 proposed me volatile s choice (ProposeAnswer.Known outcome) = tt
+proposed me volatile s choice ProposeAnswer.Finished = tt
 proposed me volatile s choice (ProposeAnswer.Again ballot mark) = tt
 proposed me volatile s choice (ProposeAnswer.Escalate cause) = tt
 proposed me volatile s choice (ProposeAnswer.Vote mark) = tt
@@ -82,10 +83,13 @@ accepted me facts volatile l key version ballot options (AcceptAnswer.Behind cur
 accepted me facts volatile l key version ballot options AcceptAnswer.Older = tt
 accepted me facts volatile l key version ballot options AcceptAnswer.Vote = tt
 
-asked : (me : ℕ) (volatile : Volatile) (s : ℕ) (tx : TxId) (key : Key) (version : ℕ) (o : Option Outcome) (vote : Option (Ballot × Mark)) → NoFacts (ask_step_by me volatile s tx key version o vote).entries
-asked me volatile s tx key version (Some outcome) vote = tt
-asked me volatile s tx key version None (Some vote) = tt
-asked me volatile s tx key version None None = tt
+asked-after : (me : ℕ) (volatile : Volatile) (s : ℕ) (tx : TxId) (key : Key) (version : ℕ) (vote : Option (Ballot × Mark)) → NoFacts (ask_step_after me volatile s tx key version vote).entries
+asked-after me volatile s tx key version (Some vote) = tt
+asked-after me volatile s tx key version None = tt
+
+asked : (me : ℕ) (facts : List Fact) (volatile : Volatile) (s : ℕ) (tx : TxId) (key : Key) (version : ℕ) (o : Option Outcome) → NoFacts (ask_step_by me facts volatile s tx key version o).entries
+asked me facts volatile s tx key version (Some outcome) = tt
+asked me facts volatile s tx key version None = either (is_finished facts tx) _ _ tt (asked-after me volatile s tx key version (vote_of facts key version tx))
 
 heard : (volatile : Volatile) (tx : TxId) (o : Option Fact) → NoFacts (outcome_step_by volatile tx o).entries
 heard volatile tx None = tt
@@ -110,7 +114,7 @@ watched cluster me facts volatile vote None = tt
 
 voted : (cluster : Cluster) (me : ℕ) (facts : List Fact) (volatile : Volatile) (vote : Vote) → NoFacts (voted_step (here cluster me facts) volatile vote).entries
 voted cluster me facts volatile vote =
-    either (is_heard facts vote.tx) _ _ tt
+    either (is_settled facts vote.tx) _ _ tt
     (either (is_open volatile.manager vote.tx) _ _
     (opened cluster me facts volatile vote (Manager.would_decide cluster.quorums volatile.manager vote))
     (watched cluster me facts volatile vote (Recover.would_decide cluster.quorums facts volatile.recovery vote)))
@@ -152,7 +156,11 @@ step-led (Err fault) h = tt
 
 claimed : (cluster : Cluster) (me : ℕ) (facts : List Fact) (volatile : Volatile) (s : ℕ) (choice : Choice) (o : Option Outcome) → BringsNoFacts (lead_step_after (here cluster me facts) volatile s choice o)
 claimed cluster me facts volatile s choice (Some outcome) = tt
-claimed cluster me facts volatile s choice None = step-led (led_of (here cluster me facts) volatile _) (led-here cluster me facts volatile _)
+claimed cluster me facts volatile s choice None = either_led (is_finished facts choice.tx) _ _ tt (step-led (led_of (here cluster me facts) volatile _) (led-here cluster me facts volatile _))
+  where
+    either_led : (test : Bool) (step other : Result NodeStep StepFault) → BringsNoFacts step → BringsNoFacts other → BringsNoFacts (cond test step other)
+    either_led true step other g h = g
+    either_led false step other g h = h
 
 -- ---- messages
 
@@ -160,13 +168,15 @@ message : (cluster : Cluster) (me : ℕ) (facts : List Fact) (volatile : Volatil
 message cluster me facts volatile s (Message.Propose choice) = proposed me volatile s choice (on_propose cluster facts choice)
 message cluster me facts volatile s (Message.Voted key version ballot tx mark) = voted cluster me facts volatile _
 message cluster me facts volatile s (Message.Escalate key version tx cause) = tt
-message cluster me facts volatile s (Message.Lead choice) = claimed cluster me facts volatile s choice (heard_of facts choice.tx)
+message cluster me facts volatile s (Message.Lead choice) = claimed cluster me facts volatile s choice (outcome_kept facts choice.tx)
 message cluster me facts volatile s (Message.Prepare key version through ballot) = prepared me facts volatile s key version ballot (on_prepare facts key version through ballot)
 message cluster me facts volatile s (Message.Promise key version through ballot reported votes) = step-led _ (promised cluster.quorums me volatile key _)
 message cluster me facts volatile s (Message.Accept key version ballot options) = accepted me facts volatile s key version ballot options (on_accept facts key version ballot options)
 message cluster me facts volatile s (Message.Refused key version ballot promised) = tt
 message cluster me facts volatile s (Message.Outcome tx outcome) = heard volatile tx (on_outcome facts tx outcome)
-message cluster me facts volatile s (Message.Ask tx key version) = asked me volatile s tx key version (heard_of facts tx) (vote_of facts key version tx)
+message cluster me facts volatile s (Message.Ask tx key version) = asked me facts volatile s tx key version (outcome_kept facts tx)
+message cluster me facts volatile s (Message.Mark centre epoch seq) = tt
+message cluster me facts volatile s (Message.Finished tx) = tt
 message cluster me facts volatile s (Message.SyncAsk key) = tt
 message cluster me facts volatile s (Message.SyncGive key version item adds) = given volatile (on_sync_give facts (record { key = key; version = version; item = item; adds = adds }))
 message cluster me facts volatile s (Message.ClientRead number key) = tt
@@ -233,5 +243,6 @@ module _ (cluster : Cluster) (me : ℕ) (facts : List Fact) where
         | inr e ↦ rw e tt
       ]
   step-entries volatile Input.Tick = tick volatile
+  step-entries volatile Input.Sweep = tt
   step-entries volatile (Input.Read key) = tt
   step-entries volatile (Input.Begin parts) = begun cluster me facts volatile parts (Manager.begin me (epoch_of facts) facts volatile.manager parts)

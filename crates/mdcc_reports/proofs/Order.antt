@@ -35,6 +35,7 @@ chosen-news (e ∷ news) = ap (λ z. (e.0, is_commit e.1) ∷ z) (chosen-news ne
 heard-none : (a : ℕ) (fact : Fact) → chosen_in (heard_lines a fact) ≡ []
 heard-none a (Fact.Heard tx outcome) = refl
 heard-none a (Fact.Booted epoch) = refl
+heard-none a (Fact.Floor centre era seq) = refl
 heard-none a (Fact.Promised key low high ballot) = refl
 heard-none a (Fact.Voted key version ballot options offered) = refl
 heard-none a (Fact.Adopted key version item adds) = refl
@@ -49,6 +50,7 @@ silent-none (Line.Deliver number next) h = refl
 silent-none (Line.Settle listed) h = refl
 silent-none (Line.Settled deliveries next) h = refl
 silent-none (Line.Tick a next) h = refl
+silent-none (Line.Sweep a next) h = refl
 silent-none (Line.Crash a) h = refl
 silent-none (Line.Stop a call image) h = refl
 silent-none (Line.Restart a epoch) h = refl

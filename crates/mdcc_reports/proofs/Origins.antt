@@ -51,6 +51,7 @@ origin-stays quorums ledger later whole e (Line.Deliver number next) h = tt
 origin-stays quorums ledger later whole e (Line.Settle listed) h = tt
 origin-stays quorums ledger later whole e (Line.Settled deliveries next) h = tt
 origin-stays quorums ledger later whole e (Line.Tick a next) h = tt
+origin-stays quorums ledger later whole e (Line.Sweep a next) h = tt
 origin-stays quorums ledger later whole e (Line.Crash a) h = tt
 origin-stays quorums ledger later whole e (Line.Stop a call image) h = tt
 origin-stays quorums ledger later whole e (Line.Restart a epoch) h = tt
@@ -68,6 +69,7 @@ silent-origin quorums ledger (Line.Deliver number next) h = tt
 silent-origin quorums ledger (Line.Settle listed) h = tt
 silent-origin quorums ledger (Line.Settled deliveries next) h = tt
 silent-origin quorums ledger (Line.Tick a next) h = tt
+silent-origin quorums ledger (Line.Sweep a next) h = tt
 silent-origin quorums ledger (Line.Crash a) h = tt
 silent-origin quorums ledger (Line.Stop a call image) h = tt
 silent-origin quorums ledger (Line.Restart a epoch) h = tt
@@ -88,6 +90,7 @@ chosen-origins quorums entry before =
 heard-origins : (quorums : Sizes) (a : ℕ) (fact : Fact) (before : List Entry) → AllByRecursion (HasOrigin quorums (Added a fact ∷ before)) (heard_lines a fact)
 heard-origins quorums a (Fact.Heard tx outcome) before = ((outcome, refl, record { later = []; before = before; parts = refl }), tt)
 heard-origins quorums a (Fact.Booted epoch) before = tt
+heard-origins quorums a (Fact.Floor centre era seq) before = tt
 heard-origins quorums a (Fact.Promised key low high ballot) before = tt
 heard-origins quorums a (Fact.Voted key version ballot options offered) before = tt
 heard-origins quorums a (Fact.Adopted key version item adds) before = tt

@@ -60,6 +60,7 @@ module _ (quorums : Sizes) where
   silent-turn es (Line.Settle listed) h = tt
   silent-turn es (Line.Settled deliveries next) h = tt
   silent-turn es (Line.Tick a next) h = tt
+  silent-turn es (Line.Sweep a next) h = tt
   silent-turn es (Line.Crash a) h = tt
   silent-turn es (Line.Stop a call image) h = tt
   silent-turn es (Line.Restart a epoch) h = tt
@@ -80,6 +81,7 @@ module _ (quorums : Sizes) where
   heard-turn : (a : ℕ) (fact : Fact) (before : List Entry) → AllByRecursion (BeginsAt quorums (Added a fact ∷ before)) (heard_lines a fact)
   heard-turn a (Fact.Heard tx outcome) before = ((outcome, refl, before, refl), tt)
   heard-turn a (Fact.Booted epoch) before = tt
+  heard-turn a (Fact.Floor centre era seq) before = tt
   heard-turn a (Fact.Promised key low high ballot) before = tt
   heard-turn a (Fact.Voted key version ballot options offered) before = tt
   heard-turn a (Fact.Adopted key version item adds) before = tt

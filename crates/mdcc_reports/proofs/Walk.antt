@@ -20,7 +20,7 @@ use Rattle.mdcc_simulation.specs.Deliveries.{deliver_line, after_message, after_
 use Rattle.mdcc_simulation.specs.Events.{after_event, happened_of, is_deliver}
 use Rattle.mdcc_simulation.specs.AppliedSteps.{fact_happened, input_happened, step_at, step_happened_by, step_stopped}
 use Rattle.mdcc_simulation.specs.Checkpoints.{is_frame_kept, striking_at}
-use Rattle.mdcc_simulation.specs.Centres.{restart_happened, after_restart, tick_line, after_tick}
+use Rattle.mdcc_simulation.specs.Centres.{restart_happened, after_restart, sweep_line, tick_line, after_sweep, after_tick}
 use Rattle.mdcc_simulation.specs.Runs.{run_from, run_of}
 use Rattle.mdcc_language.specs.declared.events.Event.{Event}
 use Rattle.mdcc_messages.specs.declared.facts.Fact.{Fact}
@@ -273,6 +273,9 @@ module _ (R : World → World → List Line → Type 0) (kept : IsKept R) where
   happened-kept w (Event.Tick a) single free =
       up-kept (counted_event w) w a (after_tick (counted_event w) a)
       (λ up. lines-kept w (tick_line a) _ (λ x. (refl, tt)) (taken-kept w w.sent a Input.Tick free up))
+  happened-kept w (Event.Sweep a) single free =
+      up-kept (counted_event w) w a (after_sweep (counted_event w) a)
+      (λ up. lines-kept w (sweep_line a) _ (λ x. (refl, tt)) (taken-kept w w.sent a Input.Sweep free up))
   happened-kept w (Event.Crash a) single free = up-kept (counted_event w) w a _ (λ up. told w (with_centre (counted_event w) a (down (centre_at w a).tail)) _ refl (kept.site w a (down (centre_at w a).tail) free))
   happened-kept w (Event.Restart a) single free =
       elim (cases_Bool (is_up_at w a)) [
@@ -288,6 +291,7 @@ module _ (R : World → World → List Line → Type 0) (kept : IsKept R) where
   event-kept w (Event.Begin a words) = within-kept w _ (happened-kept w (Event.Begin a words) refl)
   event-kept w (Event.Settle listed) = within-kept w _ (happened-kept w (Event.Settle listed) refl)
   event-kept w (Event.Tick a) = within-kept w _ (happened-kept w (Event.Tick a) refl)
+  event-kept w (Event.Sweep a) = within-kept w _ (happened-kept w (Event.Sweep a) refl)
   event-kept w (Event.Crash a) = within-kept w _ (happened-kept w (Event.Crash a) refl)
   event-kept w (Event.Restart a) = within-kept w _ (happened-kept w (Event.Restart a) refl)
   event-kept w (Event.Stop a call image) = within-kept w _ (happened-kept w (Event.Stop a call image) refl)

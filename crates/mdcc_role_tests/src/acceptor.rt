@@ -2,7 +2,7 @@
 use crate::values::{LED, cluster, decrease, insert, key, six, tx};
 use mdcc_acceptor::{on_accept, on_prepare, on_propose};
 use mdcc_base::Ballot;
-use mdcc_facts::ListFacts;
+use mdcc_list_facts::ListFacts;
 use mdcc_option::{Cause, Mark, Outcome};
 use mdcc_protocol::{AcceptAnswer, PrepareAnswer, ProposeAnswer};
 use mdcc_struct::Options;

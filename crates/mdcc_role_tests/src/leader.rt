@@ -1,8 +1,8 @@
 //! What a leader answers.
-use crate::values::{LED, centre, choice, cluster, holding, insert, item, key, tx};
+use crate::values::{LED, centre, choice, cluster, decrease, holding, insert, item, key, six, tx};
 use mdcc_base::{Ballot, BoundedList, Plain, Quorums, TxId};
-use mdcc_facts::ListFacts;
 use mdcc_leader::Leader;
+use mdcc_list_facts::ListFacts;
 use mdcc_option::{Choice, Claim, Cluster, FastLimit, Mark, Update};
 use mdcc_protocol::{LeadAnswer, Promise, PromiseAnswer};
 use mdcc_struct::Options;
@@ -281,6 +281,37 @@ fn promises_that_do_not_fit_are_not_enough(rt: HostRuntime) -> Result<(), Fail> 
     let fourth = promise(1, 101, Options::new(rt.alloc())?);
     let options = structure(&mut leader, &store, &cluster, 4, &fourth)?;
     assert!(rt; are_first_two(&options));
+    Ok(())
+}
+
+// What is executed counts beside the forced marks: three decreases of 3 from 10 fit together, but not
+// where 4 was taken before.
+#[test]
+fn executed_deltas_count_beside_forced_marks(rt: HostRuntime) -> Result<(), Fail> {
+    let cluster = Cluster {
+        limit: FastLimit::Paper,
+        ..cluster()?
+    };
+    let store = holding(rt.alloc(), vec![in rt.alloc(); insert(), decrease(5)]?)?;
+    let mut leader = asking(&rt, rt.alloc(), &store, &cluster, &claim_of(&add_of(2, -3)))?;
+    let answer = third(rt.alloc(), &mut leader, &store, &cluster, -3)?;
+    assert!(rt; is_waiting(&answer, 3));
+    Ok(())
+}
+
+// A claim whose transaction was heard is left out, of the first structure and of one that stands.
+#[test]
+fn a_heard_claim_is_left_out(rt: HostRuntime) -> Result<(), Fail> {
+    let cluster = single()?;
+    let store = six(rt.alloc())?;
+    let mut leader = asking(&rt, rt.alloc(), &store, &cluster, &claim_of(&decrease(2)))?;
+    let none = Options::new(rt.alloc())?;
+    let options = structure(&mut leader, &store, &cluster, 1, &promise(1, 101, none))?;
+    assert!(rt; options.is_empty());
+    let answer = leader.lead(&store, &cluster, &claim_of(&decrease(2)))?;
+    assert!(rt; matches!(answer, LeadAnswer::Left));
+    let answer = leader.lead(&store, &cluster, &claim_of(&decrease(3)))?;
+    assert!(rt; is_sent(&answer, 1));
     Ok(())
 }
 

@@ -1,7 +1,7 @@
 //! What a manager does with votes.
 use crate::values::{centre, cluster, insert, item, key, tx};
 use mdcc_base::{Ballot, BoundedList, TxId};
-use mdcc_facts::ListFacts;
+use mdcc_list_facts::ListFacts;
 use mdcc_manager::{Manager, key_refused};
 use mdcc_option::{BeginFault, Cause, Cluster, Mark, Outcome, Part, Transaction, Update};
 use mdcc_protocol::{ManagerAct, Vote};

@@ -1,5 +1,5 @@
 -- Sums of what is chosen.
-use Rattle.std.proofs.Common.{◌≡◌, ℕ, ◌+◌, ◌-◌, ◌*◌, ◌≤◌, Bool, true, cond, List, [], ◌∷◌, length, refl, sym, ◌∙◌, subst, arith, inl, inr, Option, Some}
+use Rattle.std.proofs.Common.{◌≡◌, ℕ, ◌*◌, ◌≤◌, true, List, [], ◌∷◌, refl, sym, subst, arith, inl, inr, ◌⊎◌, Option, Some}
 use Rattle.mdcc_base.specs.declared.identifiers.Ballot.{Ballot}
 use Rattle.mdcc_base.specs.declared.identifiers.TxId.{TxId}
 use Rattle.mdcc_option.specs.declared.choices.Choice.{Choice}
@@ -12,16 +12,14 @@ use Rattle.mdcc_agreement.proofs.Ballots.{fast, Below}
 use Rattle.mdcc_agreement.proofs.OneBase.{holds, one_base}
 use Rattle.mdcc_agreement.proofs.StructuresExtend.{sent-last, chain, backed}
 use Rattle.mdcc_agreement.proofs.ReportsCounted.{some_counted}
-use Rattle.mdcc_agreement.proofs.BothCounted.{length-centres}
-use Rattle.mdcc_agreement.proofs.DoubleCounting.{held_totals, room_left}
-use Rattle.mdcc_agreement.proofs.LedgersGrow.{IsTail-same, last-sent}
-use Rattle.mdcc_agreement.proofs.LiveTotals.{kept, In-kept, Apart-kept, total-kept, Each-from, total_bound}
-use Rattle.mdcc_agreement.proofs.OneMark.{size-classic, in_structures}
-use Rattle.mdcc_agreement.proofs.SumsWithinRooms.{Bounded-votes, Bounded-structures}
-use Rattle.mdcc_agreement.proofs.Setups.{Setup, IsSetup, centres_to, count}
+use Rattle.mdcc_agreement.proofs.LedgersGrow.{last-sent}
+use Rattle.mdcc_agreement.proofs.OneMark.{size-classic}
+use Rattle.mdcc_agreement.proofs.SumsWithinRooms.{any_choice, chosen_fast, Counted-structures}
+use Rattle.mdcc_agreement.proofs.AcceptedAgree.{Sound-structures}
+use Rattle.mdcc_agreement.proofs.Setups.{Setup, IsSetup, centres_to}
 use Rattle.mdcc_agreement.proofs.ReducedFacts.{votes, base, current, Quantity}
-use Rattle.mdcc_agreement.proofs.ReducedLedger.{IsTail, Entry, facts_of, WasSent, last_sent, IsChosen, IsAborted, IsAcceptedIn, IsBacked, IsQuantity, Allowed, Holds}
-use Rattle.mdcc_agreement.proofs.ReducedOptions.{In, Apart, Place, mark_of, gives}
+use Rattle.mdcc_agreement.proofs.ReducedLedger.{IsTail, Entry, facts_of, WasSent, last_sent, IsChoice, IsChosen, IsAborted, IsAcceptedIn, IsBacked, IsQuantity, Allowed, Holds}
+use Rattle.mdcc_agreement.proofs.ReducedOptions.{In, Apart, Place, mark_of, gives, spot}
 use Rattle.mdcc_agreement.proofs.TestsDecide.{Decides-is_mark}
 use Rattle.mdcc_agreement.proofs.Totals.{total}
 use Rattle.mdcc_agreement.proofs.VotesOfFacts.{HasVoted-mark}
@@ -80,29 +78,19 @@ module _ (s : Setup) (sizes : IsSetup s) (all : List Entry) (legal : Allowed s a
 module _ (s : Setup) (sizes : IsSetup s) (all : List Entry) (legal : Allowed s all) (i : Place)
     (q : Quantity) (listed_q : IsQuantity s q) (item : Option Item)
     (held : (a : ℕ) (old : List Entry) → IsTail old all → current (facts_of a old) i.key ≡ i.version → base (facts_of a old) i.key ≡ item) where
+  -- a chosen choice was begun
+  chosen_choice : (k : Ballot) (c : Choice) → IsChosen s all i k c.tx (Accept c) → IsChoice all c × ((spot c) ≡ i)
+  chosen_choice k c h =
+      let by : (a : ℕ) × (mark_of c.tx (votes (facts_of a all) i k) ≡ Some (Accept c)) = voter s sizes all legal i k c.tx (Accept c) h in
+      let r : (c.tx ≡ c.tx) × IsChoice all c × ((spot c) ≡ i) = any_choice s sizes all legal i by.0 k c.tx c by.1 in
+      (r.1, r.2)
+
   -- where all are chosen at the fast ballot, by double counting over all centres
   fast_total : (cs : List Choice) → Apart cs → ((c : Choice) → In c cs → IsChosen s all i fast c.tx (Accept c) × (IsAborted s all c.tx → ⊥)) →
       total (λ c. q.amount c.update) cs ≤ q.room item
   fast_total cs distinct chosen =
-      let as' : List ℕ = centres_to s.centres in
-      let has : ℕ → Choice → Bool = λ a c. gives (votes (facts_of a all) i fast) c.tx (Accept c) in
-      let amount : Choice → ℕ = λ c. q.amount c.update in
-      let share : ℕ = s.fast + s.parts - s.centres in
-      let whole : ℕ = total (λ a. total (λ c. cond (has a c) (amount c) 0) cs) as' in
-      let rows : s.fast * total amount cs ≤ whole =
-      held_totals s.fast amount has cs as' (Each-from (λ c. s.fast ≤ count (λ a. has a c) as') cs (λ c listed. (chosen c listed).0)) in
-      let columns : s.parts * whole ≤ length as' * (share * q.room item) =
-      total_bound (λ a. total (λ c. cond (has a c) (amount c) 0) cs) s.parts (share * q.room item) as' (λ a listed.
-      let kept_bound : s.parts * total amount (kept (has a) cs) ≤ share * q.room item =
-      (Bounded-votes s sizes all legal i q listed_q item held a all (IsTail-same all)).bound (kept (has a) cs) (Apart-kept (has a) cs distinct)
-      (λ c l. ((Decides-is_mark (mark_of c.tx (votes (facts_of a all) i fast)) (Accept c)).0 (In-kept (has a) c cs l).1, (chosen c (In-kept (has a) c cs l).0).1)) in
-      rw (total-kept amount (has a) cs) kept_bound) in
-      room_left s.parts (length as') share s.fast (s.centres - s.fast) (q.room item) (total amount cs) whole
-      (omega (arith, length-centres s.centres, sizes.parts_within))
-      (omega (arith, sizes.fast_within, sizes.two_fast, sizes.classic_parts))
-      (omega (arith, length-centres s.centres, sizes.fast_within))
-      (omega (arith, sizes.fast_within, sizes.two_fast, sizes.classic_parts))
-      (omega (arith, sizes.two_classic, sizes.classic_parts)) rows columns
+      chosen_fast s sizes all legal i q listed_q item held cs distinct
+      (λ c listed. ((chosen c listed).0, chosen_choice fast c (chosen c listed).0, (chosen c listed).1))
 
   -- where one is chosen at a classic ballot and none above it, the last structure there has them all
   classic_total : (k : Ballot) → Below fast k → (d : Choice) → IsChosen s all i k d.tx (Accept d) → (cs : List Choice) → Apart cs →
@@ -116,22 +104,23 @@ module _ (s : Setup) (sizes : IsSetup s) (all : List Entry) (legal : Allowed s a
         | inl none ↦ absurd (sent-last all i k shown.marks shown.sent none)
         | inr last ↦
             let sent : WasSent all i k last.0 = last-sent all i k last.0 last.1 in
-            let all_there : (c : Choice) → In c cs → IsAcceptedIn last.0 c =
+            let counted : (c : Choice) → In c cs → IsAcceptedIn last.0 c ⊎ ((l : Ballot) × Below l k × IsChosen s all i l c.tx (Accept c)) =
             λ c listed.
             let up : UpTo s sizes all legal i k c = (chosen c listed).0 in
             elim (Below-cases up.0 k) [
-              | inl under ↦ in_structures s sizes all legal i up.0 k c.tx (Accept c) last.0 up.2 under sent
+              | inl under ↦ inr (up.0, under, up.2)
               | inr rest ↦ elim rest [
                 | inl same ↦
                     let at_k : IsChosen s all i k c.tx (Accept c) = subst (λ z. IsChosen s all i z c.tx (Accept c)) same up.2 in
                     let by : (a : ℕ) × (mark_of c.tx (votes (facts_of a all) i k) ≡ Some (Accept c)) = voter s sizes all legal i k c.tx (Accept c) at_k in
                     let b : IsBacked all (facts_of by.0 all) i k = there c.tx (Accept c) by.0 by.1 in
-                    chain s all i k last.0 b.marks legal last.1 b.sent c.tx (Accept c) (sym (b.same c.tx) ∙ by.1)
+                    inl (chain s all i k last.0 b.marks legal last.1 b.sent c.tx (Accept c) (b.within c.tx (Accept c) by.1))
                 | inr over ↦ absurd (up.1 over)
               ]
             ] in
             let bound : 1 * total (λ c. q.amount c.update) cs ≤ 1 * q.room item =
-            (Bounded-structures s sizes all legal i q listed_q item held k last.0 sent).bound cs distinct (λ c listed. (all_there c listed, (chosen c listed).1)) in
+            (Counted-structures s sizes all legal i q listed_q item held k last.0 sent).bound cs distinct
+            (λ c listed. (counted c listed, chosen_choice (chosen c listed).0.0 c (chosen c listed).0.2, (chosen c listed).1)) in
             omega arith
       ]
 
@@ -176,5 +165,8 @@ module _ (s : Setup) (sizes : IsSetup s) (all : List Entry) (legal : Allowed s a
       ((c : Choice) → In c cs → IsAcceptedIn marks c × (IsAborted s all c.tx → ⊥)) → total (λ c. q.amount c.update) cs ≤ q.room item
   sums_structures m marks sent cs distinct among =
       let bound : 1 * total (λ c. q.amount c.update) cs ≤ 1 * q.room item =
-      (Bounded-structures s sizes all legal i q listed_q item same_item m marks sent).bound cs distinct among in
+      (Counted-structures s sizes all legal i q listed_q item same_item m marks sent).bound cs distinct
+      (λ c listed.
+      let r : (c.tx ≡ c.tx) × IsChoice all c × ((spot c) ≡ i) = (Sound-structures s all legal i sizes m marks sent).choices c.tx c (among c listed).0 in
+      (inl (among c listed).0, (r.1, r.2), (among c listed).1)) in
       omega arith

@@ -11,7 +11,7 @@ use Rattle.mdcc_agreement.proofs.OneBase.{IsCommitted-tail}
 use Rattle.mdcc_agreement.proofs.BegunOnce.{begun_own, In-append, adds_at-shows}
 use Rattle.mdcc_agreement.proofs.LedgersGrow.{IsTail-same}
 use Rattle.mdcc_agreement.proofs.Setups.{Setup}
-use Rattle.mdcc_agreement.proofs.ReducedFacts.{ReducedFact, Booted, Promised, Voted, Heard, Adopted, executed_by, executed}
+use Rattle.mdcc_agreement.proofs.ReducedFacts.{ReducedFact, Booted, Floor, Promised, Voted, Heard, Adopted, executed_by, executed}
 use Rattle.mdcc_agreement.proofs.ReducedLedger.{IsTail, Entry, Happened, Begun, Valued, facts_of, IsCommitted, MayHappen, Meets, Allowed}
 use Rattle.mdcc_agreement.proofs.ReducedOptions.{spot, In, Place}
 use Rattle.mdcc_agreement.proofs.TestsDecide.{Decides-key, same_place}
@@ -28,6 +28,7 @@ executed_by-committed : (s : Setup) (es : List Entry) → Allowed s es →
     ((old : List Entry) → IsTail old es → (a : ℕ) (i : Place) (p : TxId × Amounts) → In p (executed (facts_of a old) i) → CommittedAdd s es p i) →
     (a : ℕ) (f : ReducedFact) → MayHappen s es a f → (i : Place) (p : TxId × Amounts) → In p (executed_by f i) → CommittedAdd s es p i
 executed_by-committed s es allowed known a (Booted e) may i p h = absurd h
+executed_by-committed s es allowed known a (Floor origin era upto) may i p h = absurd h
 executed_by-committed s es allowed known a (Promised key low high l) may i p h = absurd h
 executed_by-committed s es allowed known a (Voted j l marks) may i p h = absurd h
 executed_by-committed s es allowed known a (Heard t Abort) may i p h = absurd h

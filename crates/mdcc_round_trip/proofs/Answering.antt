@@ -1,5 +1,5 @@
 -- The votes are delivered one after the other: the centre hears the commit at the last of them.
-use Rattle.std.proofs.Common.{◌≡◌, ℕ, ◌+◌, ◌-◌, ◌≤◌, ◌<◌, ◌==◌, ◌&&◌, Bool, true, false, List, [], ◌∷◌, ◌++◌, refl, sym, ap, ◌∙◌, subst, inl, inr, arith, map, length, nat_le, append_assoc, append-nil, IsPermutation, Option, Some, None, Ok, Err, is_some}
+use Rattle.std.proofs.Common.{◌≡◌, ℕ, ◌+◌, ◌-◌, ◌≤◌, ◌<◌, ◌==◌, ◌&&◌, Bool, true, false, List, [], ◌∷◌, ◌++◌, refl, sym, ap, ◌∙◌, subst, inl, inr, arith, map, length, nat_le, append_assoc, append-nil, IsPermutation, Option, Some, None, Ok, Err, is_some, ◌||◌}
 use Rattle.std.specs.Prelude.{if◌then◌else◌}
 use Rattle.std.specs.List.{AllByRecursion, list_any}
 use Rattle.std.proofs.lemmas.Bool.{and_left, and_parts, and_right, cases_Bool, leb-true, true≢false}
@@ -16,12 +16,11 @@ use Rattle.mdcc_option.specs.declared.choices.Outcome.{Outcome}
 use Rattle.mdcc_option.specs.declared.cluster.Cluster.{Cluster}
 use Rattle.mdcc_ledger.specs.Ledger.{Entry, facts_of}
 use Rattle.mdcc_language.specs.declared.lines.Line.{Line}
-use Rattle.mdcc_messages.specs.Lengths.{cells_needed, cells_used}
+use Rattle.mdcc_messages.specs.Lengths.{cells_needed}
 use Rattle.mdcc_messages.specs.declared.facts.Fact.{Fact}
 use Rattle.mdcc_protocol.specs.Belongs.{choice_belongs, is_centre, tx_belongs, update_belongs}
-use Rattle.mdcc_protocol.specs.Facts.{heard_of}
+use Rattle.mdcc_protocol.specs.Facts.{heard_of, is_finished, is_settled}
 use Rattle.mdcc_protocol.specs.Learner.{collided, is_barred_by, with_vote}
-use Rattle.mdcc_protocol.specs.Manager
 use Rattle.mdcc_protocol.specs.Manager.{act_on_vote, acted, decision, vote_taken, would_decide}
 use Rattle.mdcc_protocol.specs.News.{is_crowding}
 use Rattle.mdcc_protocol.specs.Recover
@@ -45,6 +44,7 @@ use Rattle.mdcc_round_trip.proofs.Delivering.{Delivers, Name, counted, delivery-
 use Rattle.mdcc_round_trip.proofs.Proposing.{NoneDropped, NoneHears, number-same, room-fits}
 use Rattle.mdcc_round_trip.proofs.Lists.{each-append, each-back, each-both, each-front, each-map, each-weaker, none-numbered, number-append}
 use Rattle.mdcc_rules.specs.Here.{here}
+use Rattle.mdcc_protocol.specs.Cells.{cells_held}
 
 -- ---- a vote that is counted
 
@@ -88,17 +88,22 @@ opened-first manager t tx h = rw h refl
 
 module _ (cluster : Cluster) (a : ℕ) (facts : List Fact) (volatile : Volatile) (t : Undecided) (pair : Choice × ℕ)
     (centre : is_centre cluster pair.1 ≡ true) (belongs : choice_belongs cluster pair.0 ≡ true)
-    (unheard : heard_of facts pair.0.tx ≡ None) (open' : opened_of volatile.manager pair.0.tx ≡ Some t) where
+    (unheard : heard_of facts pair.0.tx ≡ None) (unfinished : is_finished facts pair.0.tx ≡ false) (open' : opened_of volatile.manager pair.0.tx ≡ Some t) where
   belonging : (tx_belongs cluster pair.0.tx ≡ true) × (update_belongs cluster pair.0.update ≡ true)
   belonging = and_parts (tx_belongs cluster pair.0.tx) (update_belongs cluster pair.0.update) belongs
 
   -- the vote's transaction is open, and was not heard
   voted-open : voted_step (here cluster a facts) volatile (vote_counted pair) ≡ opened_step (here cluster a facts) volatile (vote_counted pair) (would_decide cluster.quorums volatile.manager (vote_counted pair))
-  voted-open =
-      ap (λ (heard : Option Outcome). if is_some heard then nothing_done volatile else (if is_open volatile.manager pair.0.tx
-      then opened_step (here cluster a facts) volatile (vote_counted pair) (would_decide cluster.quorums volatile.manager (vote_counted pair))
-      else watched_step (here cluster a facts) volatile (vote_counted pair) (Recover.would_decide cluster.quorums facts volatile.recovery (vote_counted pair)))) unheard
-      ∙ rw (opened-first volatile.manager t pair.0.tx open') refl
+  voted-open = by (is_settled facts pair.0.tx) unsettled
+    where
+      unsettled : is_settled facts pair.0.tx ≡ false
+      unsettled = ap (λ (heard : Option Outcome). is_some heard || is_finished facts pair.0.tx) unheard ∙ unfinished
+
+      by : (b : Bool) → b ≡ false → (if b then nothing_done volatile else (if is_open volatile.manager pair.0.tx
+          then opened_step (here cluster a facts) volatile (vote_counted pair) (would_decide cluster.quorums volatile.manager (vote_counted pair))
+          else watched_step (here cluster a facts) volatile (vote_counted pair) (Recover.would_decide cluster.quorums facts volatile.recovery (vote_counted pair))))
+          ≡ opened_step (here cluster a facts) volatile (vote_counted pair) (would_decide cluster.quorums volatile.manager (vote_counted pair))
+      by b e = rw e (rw (opened-first volatile.manager t pair.0.tx open') refl)
 
   pub vote-step : step_of (here cluster a facts) volatile (Input.Message (vote_of_member a pair))
       ≡ checked cluster facts (Ok (opened_step (here cluster a facts) volatile (vote_counted pair) (would_decide cluster.quorums volatile.manager (vote_counted pair))))
@@ -182,6 +187,9 @@ module _ (w : World) (a : ℕ) (t : Undecided) (members : List ℕ) (order : Lis
     unheard-here : heard_of (facts_of u.ledger a) pair.0.tx ≡ None
     unheard-here = ap (λ (es : List Entry). heard_of (facts_of es a) pair.0.tx) c.ledger ∙ ap (heard_of (facts_of w.ledger a)) pair-is.own ∙ undecided.unheard
 
+    unfinished-here : is_finished (facts_of u.ledger a) pair.0.tx ≡ false
+    unfinished-here = ap (λ (es : List Entry). is_finished (facts_of es a) pair.0.tx) c.ledger ∙ ap (is_finished (facts_of w.ledger a)) pair-is.own ∙ undecided.unfinished
+
     open-here : opened_of (centre_at u a).volatile.manager pair.0.tx ≡ Some t
     open-here = ap (λ m. opened_of m pair.0.tx) c.votes ∙ ap (opened_of (centre_at w a).volatile.manager) pair-is.own ∙ undecided.uncounted.opened
 
@@ -202,7 +210,7 @@ module _ (w : World) (a : ℕ) (t : Undecided) (members : List ℕ) (order : Lis
     step-here =
         vote-step u.cluster a (facts_of u.ledger a) (centre_at u a).volatile t pair
         (subst (λ (k : Cluster). is_centre k pair.1 ≡ true) (sym c.cluster) pair-is.centre) (subst (λ (k : Cluster). choice_belongs k pair.0 ≡ true) (sym c.cluster) pair-is.belongs)
-        unheard-here open-here
+        unheard-here unfinished-here open-here
 
     told-by : (o : Option Outcome) → would_decide u.cluster.quorums (centre_at u a).volatile.manager (vote_counted pair) ≡ o
         → next ≡ delivery_told number (input_happened (counted u number) a (checked u.cluster (facts_of u.ledger a) (Ok (opened_step (here u.cluster a (facts_of u.ledger a)) (centre_at u a).volatile (vote_counted pair) o))))
@@ -341,7 +349,7 @@ module _ (w : World) (a : ℕ) (t : Undecided) (members : List ℕ) (order : Lis
   -- where the centre has cells for the commit, none of the deliveries is dropped
   pub all-kept : (numbers : List ℕ) (before after : List (Choice × ℕ)) (u v : World) (lines : List Line) → order ≡ before ++ after → Counted before u
       → Name (vote_of_member a) u numbers after → Delivers u numbers v lines
-      → cells_used (facts_of w.ledger a) + cells_needed (Fact.Heard t.tx (Outcome.Commit t.choices)) ≤ w.cluster.cells → NoneDropped lines
+      → cells_held (facts_of w.ledger a) + cells_needed (Fact.Heard t.tx (Outcome.Commit t.choices)) ≤ w.cluster.cells → NoneDropped lines
   all-kept [] before [] u v lines is c name d room = subst NoneDropped (sym d.1) tt
   all-kept (number ∷ numbers) before [] u v lines is c name d room = absurd name
   all-kept [] before (pair ∷ after) u v lines is c name d room = absurd name

@@ -1,6 +1,6 @@
 -- The proposals are delivered one after the other: each gives a vote, whatever their order.
-use Rattle.std.proofs.Common.{◌≡◌, ℕ, ◌+◌, ◌-◌, ◌≤◌, ◌==◌, Bool, true, false, cond, List, [], ◌∷◌, ◌++◌, refl, sym, ap, ◌∙◌, subst, inl, inr, arith, map, length, max, nat_lt, append_assoc, append-nil, Option, Some, None, Ok, Err}
-use Rattle.std.specs.List.{AllByRecursion, list_any}
+use Rattle.std.proofs.Common.{◌≡◌, ℕ, ◌+◌, ◌-◌, ◌≤◌, ◌&&◌, ◌==◌, Bool, true, false, cond, List, [], ◌∷◌, ◌++◌, refl, sym, ap, ◌∙◌, subst, inl, inr, arith, map, length, max, nat_lt, append_assoc, append-nil, Option, Some, None, Ok, Err}
+use Rattle.std.specs.List.{AllByRecursion}
 use Rattle.std.proofs.Math.Nat.{max-zero}
 use Rattle.std.proofs.lemmas.Bool.{cases_Bool, eq-eqb, eqb-true, le-ltb, true≢false}
 use Rattle.std.proofs.Math.Seq.{map-set_same}
@@ -17,10 +17,10 @@ use Rattle.mdcc_language.specs.declared.lines.Line.{Line}
 use Rattle.mdcc_messages.specs.declared.facts.Fact.{Fact}
 use Rattle.mdcc_messages.specs.declared.messages.Envelope.{Envelope}
 use Rattle.mdcc_protocol.specs.Belongs.{choice_belongs, is_centre}
-use Rattle.mdcc_protocol.specs.Facts.{current_of, deltas_at, executed_of, heard_of, version_from}
+use Rattle.mdcc_protocol.specs.Facts.{current_of, deltas_at, executed_of, heard_of, version_from, floor_of, is_finished}
 use Rattle.mdcc_protocol.specs.News.{is_crowding, keys_in}
 use Rattle.mdcc_protocol.specs.Volatile.{Volatile}
-use Rattle.mdcc_messages.specs.Lengths.{cells_needed, cells_used}
+use Rattle.mdcc_messages.specs.Lengths.{cells_needed}
 use Rattle.mdcc_rules.specs.Node.{cells_spare, checked, is_without_room, step_of}
 use Rattle.mdcc_rules.specs.declared.node.Input.{Input}
 use Rattle.mdcc_rules.specs.declared.node.StepFault.{StepFault}
@@ -34,11 +34,13 @@ use Rattle.mdcc_round_trip.specs.RoundTrips.{is_dropped, is_hearing, message_at,
 use Rattle.mdcc_round_trip.proofs.Alike.{alike-at, bare}
 use Rattle.mdcc_round_trip.proofs.Apart.{key-same, key-true, of_both}
 use Rattle.mdcc_round_trip.proofs.Delivering.{Delivers, Name, counted, delivery-told, delivery_told, messages-after, name-more}
-use Rattle.mdcc_round_trip.proofs.Elsewhere.{answers-alike, or-none, voted-alike}
+use Rattle.mdcc_round_trip.proofs.Elsewhere.{answers-alike, or-none, voted-alike, accepted-unfinished, any-alike, one-unfinished}
 use Rattle.mdcc_round_trip.proofs.Lists.{each-any, each-append, each-back, each-both, each-front, each-map, each-weaker, none-numbered}
 use Rattle.mdcc_rules.specs.Here.{here}
 use Rattle.mdcc_rules.specs.AcceptorRules.{proposed_step}
 use Rattle.mdcc_protocol.specs.declared.acceptor.ProposeAnswer.{ProposeAnswer}
+use Rattle.mdcc_protocol.specs.Cells.{cells_held}
+use Rattle.std.specs.Prelude.{nat_le, nat_lt}
 
 -- ---- one step
 
@@ -51,10 +53,6 @@ proposal-step : (cluster : Cluster) (a : ℕ) (facts : List Fact) (volatile : Vo
 proposal-step cluster a facts volatile pair centre belongs accepted =
     rw (number-same pair.1, centre, belongs) (ap (λ (answer : ProposeAnswer). checked cluster facts (Ok (proposed_step pair.1 volatile a pair.0 answer))) accepted)
 
-any-alike : {X : Type 0} (p q : X → Bool) (xs : List X) → ((x : X) → p x ≡ q x) → list_any p xs ≡ list_any q xs
-any-alike p q [] h = refl
-any-alike p q (x ∷ xs) h = rw (h x, any-alike p q xs h) refl
-
 -- a vote changes nothing that a fact would crowd
 voted-crowding : (facts : List Fact) (choice : Choice) (fact : Fact) → is_crowding (accepting_fact choice ∷ facts) fact ≡ is_crowding facts fact
 voted-crowding facts choice fact =
@@ -62,9 +60,9 @@ voted-crowding facts choice fact =
     (λ key. ap (λ n. nat_lt 64 (length (deltas_at (fact ∷ facts) key (max n (version_from key fact))))) (max-zero (current_of facts key)))
 
 -- a fact that lies in the cells with the others has room
-pub room-fits : (cluster : Cluster) (facts : List Fact) (fact : Fact) → cells_used facts + cells_needed fact ≤ cluster.cells → is_without_room cluster facts fact ≡ false
+pub room-fits : (cluster : Cluster) (facts : List Fact) (fact : Fact) → cells_held facts + cells_needed fact ≤ cluster.cells → is_without_room cluster facts fact ≡ false
 room-fits cluster facts fact h =
-    le-ltb (cells_spare cluster facts) (cells_needed fact) (spare (cells_used facts) (cells_needed fact) cluster.cells h)
+    le-ltb (cells_spare cluster facts) (cells_needed fact) (spare (cells_held facts) (cells_needed fact) cluster.cells h)
   where
     spare : (used needed all : ℕ) → used + needed ≤ all → needed ≤ all - used
     spare used needed all h = omega (arith, h)
@@ -76,6 +74,7 @@ pub record After (w v : World) (sends : List Envelope) : Type 0 where
   pub centres : map bare v.centres ≡ map bare w.centres
   pub messages : messages_of v ≡ messages_of w ++ sends
   pub heard : (b : ℕ) (tx : TxId) → heard_of (facts_of v.ledger b) tx ≡ heard_of (facts_of w.ledger b) tx
+  pub finished : (b : ℕ) (tx : TxId) → is_finished (facts_of v.ledger b) tx ≡ is_finished (facts_of w.ledger b) tx
   pub crowding : (b : ℕ) (fact : Fact) → is_crowding (facts_of v.ledger b) fact ≡ is_crowding (facts_of w.ledger b) fact
 
 -- the member would accept the choice, and has no armed stop
@@ -147,8 +146,8 @@ module _ (a : ℕ) (tx : TxId) where
         }
 
   -- what another member, or this one about another key, would accept it still would
-  pub still : (w : World) (pair : Choice × ℕ) (next : Happened) → Proposed w pair next → (other : Choice × ℕ) → Accepts w other → of_both pair.0.key pair.1 other ≡ false → Accepts next.world other
-  still w pair next d other h differ = record {
+  pub still : (w : World) (pair : Choice × ℕ) (next : Happened) → Proposed w pair next → Accepts w pair → (other : Choice × ℕ) → Accepts w other → of_both pair.0.key pair.1 other ≡ false → Accepts next.world other
+  still w pair next d own other h differ = record {
     belongs = subst (λ (c : Cluster). choice_belongs c other.0 ≡ true) (sym d.cluster) h.belongs;
     unstopped = ap (λ (p : Bool × (Option (ℕ × Image) × Volatile)). p.1.0) (alike-at next.world w d.centres other.1) ∙ h.unstopped;
     accepted =
@@ -169,7 +168,8 @@ module _ (a : ℕ) (tx : TxId) where
       by : (b : Bool) → (pair.1 == other.1) ≡ b → IsAccepted w.cluster (cond (pair.1 == other.1) (accepting_fact pair.0 ∷ facts_of w.ledger other.1) (facts_of w.ledger other.1)) other.0
       by true e = rw e
           (answers-alike w.cluster (accepting_fact pair.0 ∷ facts_of w.ledger other.1) (facts_of w.ledger other.1) other.0
-          (voted-alike (facts_of w.ledger other.1) other.0.key pair.0.key pair.0.version ((pair.0.tx, Mark.Accept pair.0) ∷ []) None (differs e)) ∙ h.accepted)
+          (voted-alike (facts_of w.ledger other.1) other.0.key pair.0.key pair.0.version ((pair.0.tx, Mark.Accept pair.0) ∷ []) None (differs e)
+          (one-unfinished (facts_of w.ledger other.1) pair.0.tx (Mark.Accept pair.0) (subst (λ m. is_finished (facts_of w.ledger m) pair.0.tx ≡ false) (eqb-true pair.1 other.1 e) (accepted-unfinished w.cluster (facts_of w.ledger pair.1) pair.0 (Mark.Accept pair.0) own.accepted)))) ∙ h.accepted)
       by false e = rw e h.accepted
 
   -- what is heard of, and what would be crowded, is as before
@@ -178,6 +178,13 @@ module _ (a : ℕ) (tx : TxId) where
     where
       by : (c : Bool) → heard_of (cond c (accepting_fact pair.0 ∷ facts_of w.ledger b) (facts_of w.ledger b)) tx' ≡ heard_of (facts_of w.ledger b) tx'
       by true = or-none (heard_of (facts_of w.ledger b) tx')
+      by false = refl
+
+  finished-as_before : (w : World) (pair : Choice × ℕ) (next : Happened) → Proposed w pair next → (b : ℕ) (tx' : TxId) → is_finished (facts_of next.world.ledger b) tx' ≡ is_finished (facts_of w.ledger b) tx'
+  finished-as_before w pair next d b tx' = ap (λ (es : List Entry). is_finished (facts_of es b) tx') d.ledger ∙ by (pair.1 == b)
+    where
+      by : (c : Bool) → is_finished (cond c (accepting_fact pair.0 ∷ facts_of w.ledger b) (facts_of w.ledger b)) tx' ≡ is_finished (facts_of w.ledger b) tx'
+      by true = ap (λ n. nat_lt 0 tx'.seq && nat_le tx'.seq n) (max-zero (floor_of (facts_of w.ledger b) tx'.centre tx'.epoch))
       by false = refl
 
   crowding-same : (w : World) (pair : Choice × ℕ) (next : Happened) → Proposed w pair next → (b : ℕ) (fact : Fact) → is_crowding (facts_of next.world.ledger b) fact ≡ is_crowding (facts_of w.ledger b) fact
@@ -210,6 +217,7 @@ module _ (a : ℕ) (tx : TxId) where
       centres = ap (λ (x : World). map bare x.centres) (sym d.0);
       messages = ap messages_of (sym d.0) ∙ sym (append-nil (messages_of w));
       heard = λ b tx'. ap (λ (x : World). heard_of (facts_of x.ledger b) tx') (sym d.0);
+      finished = λ b tx'. ap (λ (x : World). is_finished (facts_of x.ledger b) tx') (sym d.0);
       crowding = λ b fact. ap (λ (x : World). is_crowding (facts_of x.ledger b) fact) (sym d.0);
     },
     subst (NoneHears a tx) (sym d.1) tt,
@@ -224,7 +232,7 @@ module _ (a : ℕ) (tx : TxId) where
       let one = proposed w number pair next centre accept.0 name.0 d.1 room in
       let ih = all-proposed numbers order next.world v rest (subst (λ (c : Cluster). is_centre c a ≡ true) (sym one.cluster) centre)
       (name-more (proposal_of a) w next.world (vote_of_member a pair ∷ []) numbers order one.messages name.1)
-      (each-weaker (λ other. Accepts w other × (of_both pair.0.key pair.1 other ≡ false)) (Accepts next.world) order (λ other h. still w pair next one other h.0 h.1)
+      (each-weaker (λ other. Accepts w other × (of_both pair.0.key pair.1 other ≡ false)) (Accepts next.world) order (λ other h. still w pair next one accept.0 other h.0 h.1)
       (each-both (Accepts w) (λ other. of_both pair.0.key pair.1 other ≡ false) order accept.1 (first-apart pair order once)))
       (rest-once pair order once) d.2.2 (each-back (λ line. is_dropped line ≡ false) next.lines rest both) in
       let after = ih.0 in (
@@ -233,6 +241,7 @@ module _ (a : ℕ) (tx : TxId) where
           centres = after.centres ∙ one.centres;
           messages = after.messages ∙ ap (λ ms. ms ++ map (vote_of_member a) order) one.messages ∙ append_assoc (messages_of w) (vote_of_member a pair ∷ []) (map (vote_of_member a) order);
           heard = λ b tx'. after.heard b tx' ∙ heard-same w pair next one b tx';
+          finished = λ b tx'. after.finished b tx' ∙ finished-as_before w pair next one b tx';
           crowding = λ b fact. after.crowding b fact ∙ crowding-same w pair next one b fact;
         },
         subst (NoneHears a tx) (sym d.2.1) (each-append (λ line. is_hearing a tx line ≡ false) next.lines rest one.quiet ih.1),

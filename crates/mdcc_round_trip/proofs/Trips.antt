@@ -5,7 +5,7 @@ use Rattle.std.proofs.lemmas.List.Sorted.{length_permutation}
 use Rattle.mdcc_base.specs.AreQuorums.{AreQuorums}
 use Rattle.mdcc_base.specs.Counts.{number_of}
 use Rattle.mdcc_base.specs.declared.outside.Image.{Image}
-use Rattle.mdcc_messages.specs.Lengths.{cells_needed, cells_used}
+use Rattle.mdcc_messages.specs.Lengths.{cells_needed}
 use Rattle.mdcc_option.specs.declared.choices.Choice.{Choice}
 use Rattle.mdcc_option.specs.declared.cluster.Cluster.{Cluster}
 use Rattle.mdcc_option.specs.declared.choices.Outcome.{Outcome}
@@ -28,6 +28,7 @@ use Rattle.mdcc_round_trip.proofs.Delivering.{Delivers, named, unrolled}
 use Rattle.mdcc_round_trip.proofs.Lists.{each-append, each-back, each-both, each-front, each-permuted, each-weaker}
 use Rattle.mdcc_round_trip.proofs.Proposing.{Accepts, After, NoneDropped, NoneHears, all-proposed}
 use Rattle.mdcc_round_trip.proofs.Roomy.{all-roomy, fitting, shares-moved, votes_at}
+use Rattle.mdcc_protocol.specs.Cells.{cells_held}
 
 -- what holds for each member of each choice holds for each choice of each member
 turned : (Q : Choice → ℕ → Type 0) (choices : List Choice) (members : List ℕ) → AllByRecursion (λ (m : ℕ). AllByRecursion (λ (c : Choice). Q c m) choices) members
@@ -93,6 +94,7 @@ module _ (w : World) (a : ℕ) (t : Undecided) (members : List ℕ) (first secon
           unstopped = ap (λ (p : Bool × (Option (ℕ × Image) × Volatile)). p.1.0) (alike-at first.world w after.centres a) ∙ h.unstopped;
           uncounted = subst (λ (p : Bool × (Option (ℕ × Image) × Volatile)). IsUncounted p.1.1.manager t) (sym (alike-at first.world w after.centres a)) h.uncounted;
           unheard = after.heard a t.tx ∙ h.unheard;
+          unfinished = after.finished a t.tx ∙ h.unfinished;
           uncrowded = after.crowding a (Fact.Heard t.tx (Outcome.Commit t.choices)) ∙ h.uncrowded;
         }
 
@@ -134,7 +136,7 @@ module _ (w : World) (a : ℕ) (t : Undecided) (members : List ℕ) (first secon
       }
 
     -- none is, where the centre has cells for the commit
-    answers-kept : cells_used (facts_of first.world.ledger a) + cells_needed (Fact.Heard t.tx (Outcome.Commit t.choices)) ≤ w.cluster.cells → NoneDropped answering.0
+    answers-kept : cells_held (facts_of first.world.ledger a) + cells_needed (Fact.Heard t.tx (Outcome.Commit t.choices)) ≤ w.cluster.cells → NoneDropped answering.0
     answers-kept room =
         let after = after-asking.0 in
         let are = subst (λ (c : Cluster). AreQuorums c.quorums) (sym after.cluster) ready.quorums in
@@ -142,7 +144,7 @@ module _ (w : World) (a : ℕ) (t : Undecided) (members : List ℕ) (first secon
         let quorum = subst (λ (c : Cluster). IsFastQuorum c.quorums members) (sym after.cluster) ready.quorum in
         let voted = subst (λ (c : Cluster). AllByRecursion (IsVoted c t) trip.answered) (sym after.cluster) voting in
         let once = ordered-once t.choices members trip.answered trip.answers_each ready.choices.apart ready.quorum.apart in
-        let here = subst (λ (c : Cluster). cells_used (facts_of first.world.ledger a) + cells_needed (Fact.Heard t.tx (Outcome.Commit t.choices)) ≤ c.cells) (sym after.cluster) room in
+        let here = subst (λ (c : Cluster). cells_held (facts_of first.world.ledger a) + cells_needed (Fact.Heard t.tx (Outcome.Commit t.choices)) ≤ c.cells) (sym after.cluster) room in
         all-kept first.world a t members trip.answered are sites undecided-then ready.choices quorum trip.answers_each voted once
         trip.votes [] trip.answered first.world second.world answering.0 refl
         (nothing-counted first.world a t members trip.answered are sites undecided-then ready.choices quorum trip.answers_each voted once)
@@ -154,20 +156,20 @@ module _ (w : World) (a : ℕ) (t : Undecided) (members : List ℕ) (first secon
     member-once : (m : ℕ) → number_of (λ (member : ℕ). member == m) members ≤ 1
     member-once m = apart-once (λ (x y : ℕ). x == y) (λ x. x == m) members (one_member m) ready.quorum.apart
 
-    roomy : NoneDropped asking.0 × ((m : ℕ) → cells_used (facts_of first.world.ledger m) ≡ cells_used (facts_of w.ledger m) + votes_at m trip.asked)
+    roomy : NoneDropped asking.0 × ((m : ℕ) → cells_held (facts_of first.world.ledger m) ≤ cells_held (facts_of w.ledger m) + votes_at m trip.asked)
     roomy =
         all-roomy a t.tx trip.proposals trip.asked w first.world asking.0 ready.undecided.centre
         (named (proposal_of a) w trip.proposals trip.asked trip.proposals_are) accepting
         (ordered-once t.choices members trip.asked trip.asks_each ready.choices.apart ready.quorum.apart)
         (fitting w t.choices members trip.asked trip.asks_each member-once have.votes) asking.2
 
-    commit-fits : cells_used (facts_of first.world.ledger a) + cells_needed (Fact.Heard t.tx (Outcome.Commit t.choices)) ≤ w.cluster.cells
+    commit-fits : cells_held (facts_of first.world.ledger a) + cells_needed (Fact.Heard t.tx (Outcome.Commit t.choices)) ≤ w.cluster.cells
     commit-fits =
-        within (cells_used (facts_of first.world.ledger a)) (cells_used (facts_of w.ledger a)) (votes_at a trip.asked) (cells_of_votes t.choices)
+        within (cells_held (facts_of first.world.ledger a)) (cells_held (facts_of w.ledger a)) (votes_at a trip.asked) (cells_of_votes t.choices)
         (cells_needed (Fact.Heard t.tx (Outcome.Commit t.choices))) w.cluster.cells
         (roomy.1 a) (shares-moved t.choices members trip.asked a trip.asks_each (member-once a)) have.commit
       where
-        within : (now used own votes needed all : ℕ) → now ≡ used + own → own ≤ votes → used + votes + needed ≤ all → now + needed ≤ all
+        within : (now used own votes needed all : ℕ) → now ≤ used + own → own ≤ votes → used + votes + needed ≤ all → now + needed ≤ all
         within now used own votes needed all e h k = omega (arith, e, h, k)
 
     pub none-dropped : NoneDropped (first.lines ++ second.lines)

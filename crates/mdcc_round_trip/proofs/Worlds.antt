@@ -73,7 +73,7 @@ worlds-ready w a t members world may quorum accept =
     record {
       quorums = world.cluster_itself.quorums;
       sites = world.sites;
-      undecided = record { centre = may.centre; unstopped = may.unstopped; uncounted = may.uncounted; unheard = may.unheard; uncrowded = may.uncrowded };
+      undecided = record { centre = may.centre; unstopped = may.unstopped; uncounted = may.uncounted; unheard = may.unheard; unfinished = may.unfinished; uncrowded = may.uncrowded };
       choices = choices-of t.tx t.choices found.0;
       belong = may.belong;
       quorum = quorum;

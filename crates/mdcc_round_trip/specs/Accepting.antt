@@ -18,16 +18,17 @@ use Rattle.mdcc_rules.specs.declared.node.StepFault.{StepFault}
 use Rattle.mdcc_round_trip.specs.Messages.{accepting_fact, proposal_of, vote_of_member}
 use Rattle.std.specs.Prelude.{[], ◌∷◌}
 use Rattle.mdcc_rules.specs.Here.{here}
+use Rattle.mdcc_protocol.specs.Facts.{is_finished}
 
 -- the acceptor gives a vote to accept the choice
 abbrev pub IsAccepted : Cluster → List Fact → Choice → Type 0
 IsAccepted cluster facts choice = on_propose cluster facts choice ≡ ProposeAnswer.Vote (Mark.Accept choice)
 
--- votes to accept choices of other keys, the newest first, change no answer
+-- votes to accept choices of other keys and of transactions that are not finished, the newest first, change no answer
 abbrev pub OtherKeysChangeNothing : Type 0
 OtherKeysChangeNothing =
     (cluster : Cluster) (facts : List Fact) (choice : Choice) (others : List Choice)
-    → AllByRecursion (λ other. key_eq other.key choice.key ≡ false) others
+    → AllByRecursion (λ other. (key_eq other.key choice.key ≡ false) × (is_finished facts other.tx ≡ false)) others
     → on_propose cluster (map accepting_fact others ++ facts) choice ≡ on_propose cluster facts choice
 
 -- a vote to accept is made durable, and goes back to the centre that proposes

@@ -12,7 +12,7 @@ use Rattle.mdcc_messages.specs.Mailbox.{Sent, numbered}
 use Rattle.mdcc_messages.specs.declared.facts.Fact.{Fact}
 use Rattle.mdcc_messages.specs.declared.messages.Envelope.{Envelope}
 use Rattle.mdcc_protocol.specs.Belongs.{choice_belongs, is_centre}
-use Rattle.mdcc_protocol.specs.Facts.{heard_of}
+use Rattle.mdcc_protocol.specs.Facts.{heard_of, is_finished}
 use Rattle.mdcc_protocol.specs.News.{is_crowding}
 use Rattle.mdcc_protocol.specs.Volatile.{Undecided}
 use Rattle.mdcc_language.specs.declared.events.Event.{Event}
@@ -32,12 +32,13 @@ abbrev pub AreNumbersOf : World → List ℕ → List Envelope → Type 0
 AreNumbersOf w numbers messages = map (message_at w) numbers ≡ map Some messages
 
 -- the transaction is open at the centre, which is one of the cluster and has no armed stop; the centre has neither heard of its outcome
--- nor counted a vote on it, and the deltas of a commit would crowd no version there
+-- nor counted a vote on it, it is not finished there, and the deltas of a commit would crowd no version there
 pub record IsUndecidedAt (w : World) (a : ℕ) (t : Undecided) : Type 0 where
   pub centre : is_centre w.cluster a ≡ true
   pub unstopped : (centre_at w a).stop ≡ None
   pub uncounted : IsUncounted (centre_at w a).volatile.manager t
   pub unheard : heard_of (facts_of w.ledger a) t.tx ≡ None
+  pub unfinished : is_finished (facts_of w.ledger a) t.tx ≡ false
   pub uncrowded : is_crowding (facts_of w.ledger a) (Fact.Heard t.tx (Outcome.Commit t.choices)) ≡ false
 
 -- the member is one of the cluster, has no armed stop, and would accept each choice

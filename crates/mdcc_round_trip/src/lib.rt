@@ -10,7 +10,7 @@ ghost use Rattle.mdcc_round_trip.specs.RoundTrips.{IsReady, IsRoundTrip, OneRoun
 ghost use Rattle.mdcc_round_trip.specs.Worlds.{WorldsAreReady};
 
 /// An acceptor that would accept each of several choices of different keys accepts them in any order: a
-/// vote on another key changes nothing that it asks. Each proposal gives a vote, which goes back to the
+/// vote on another key, of a transaction that is not finished, changes nothing that it asks. Each proposal gives a vote, which goes back to the
 /// centre that proposed.
 pub fn acceptors_accept_in_any_order()
     ensures unchanged { OtherKeysChangeNothing }

@@ -9,7 +9,7 @@ use Rattle.mdcc_option.specs.declared.choices.Mark.{Mark}
 use Rattle.mdcc_option.specs.declared.choices.Outcome.{Outcome}
 use Rattle.mdcc_struct.specs.declared.options.Options.{Options}
 use Rattle.mdcc_protocol.specs.Acceptor.{new_marks, on_accept, on_prepare, on_propose}
-use Rattle.mdcc_protocol.specs.Facts.{heard_of, is_heard, report_of, vote_of}
+use Rattle.mdcc_protocol.specs.Facts.{is_finished, is_settled, outcome_kept, report_of, vote_of}
 use Rattle.mdcc_protocol.specs.Marks.{is_accept}
 use Rattle.mdcc_rules.specs.Messages.{to_each, to_one}
 use Rattle.mdcc_rules.specs.Steps.{NodeStep, adding, nothing_done, sending}
@@ -27,6 +27,7 @@ use Rattle.mdcc_rules.specs.Here.{Here}
 -- what the answer to a proposal from s sends to s, and the vote that it adds
 abbrev pub proposed_step : ℕ → Volatile → ℕ → Choice → ProposeAnswer → NodeStep
 proposed_step me volatile s choice (ProposeAnswer.Known outcome) = sending volatile (to_one me s (Message.Outcome choice.tx outcome))
+proposed_step me volatile s choice ProposeAnswer.Finished = sending volatile (to_one me s (Message.Finished choice.tx))
 proposed_step me volatile s choice (ProposeAnswer.Again ballot mark) =
     sending volatile (to_one me s (Message.Voted choice.key choice.version ballot choice.tx mark))
 proposed_step me volatile s choice (ProposeAnswer.Escalate cause) =
@@ -69,10 +70,10 @@ votes_sent me key version ballot (tx, mark) =
     let message = Message.Voted key version ballot tx mark in
     to_each (if tx.centre == ballot.centre then tx.centre ∷ [] else tx.centre ∷ ballot.centre ∷ []) me message
 
--- the votes on these marks, but for those whose transaction was heard
+-- the votes on these marks, but for those whose transaction was heard or is finished
 abbrev pub all_votes_sent : ℕ → List Fact → Key → ℕ → Ballot → Options → List Envelope
 all_votes_sent me facts key version ballot options =
-    flat_map (votes_sent me key version ballot) (filter (λ e. not (is_heard facts e.0)) options)
+    flat_map (votes_sent me key version ballot) (filter (λ e. not (is_settled facts e.0)) options)
 
 -- a vote on marks that are new
 abbrev pub voted_marks_step : ℕ → List Fact → Volatile → Key → ℕ → Ballot → Options → NodeStep
@@ -96,12 +97,18 @@ accept_step me facts volatile l key version ballot options =
 
 -- ---- questions
 
--- by what was heard of the transaction, and then by what was voted on it here
-abbrev pub ask_step_by : ℕ → Volatile → ℕ → TxId → Key → ℕ → Option Outcome → Option (Ballot × Mark) → NodeStep
-ask_step_by me volatile s tx key version (Some outcome) vote = sending volatile (to_one me s (Message.Outcome tx outcome))
-ask_step_by me volatile s tx key version None (Some vote) = sending volatile (to_one me s (Message.Voted key version vote.0 tx vote.1))
-ask_step_by me volatile s tx key version None None = nothing_done volatile
+-- by what was voted on the transaction here
+abbrev pub ask_step_after : ℕ → Volatile → ℕ → TxId → Key → ℕ → Option (Ballot × Mark) → NodeStep
+ask_step_after me volatile s tx key version (Some vote) = sending volatile (to_one me s (Message.Voted key version vote.0 tx vote.1))
+ask_step_after me volatile s tx key version None = nothing_done volatile
+
+-- by what is kept of its outcome, and then by whether it is finished
+abbrev pub ask_step_by : ℕ → List Fact → Volatile → ℕ → TxId → Key → ℕ → Option Outcome → NodeStep
+ask_step_by me facts volatile s tx key version (Some outcome) = sending volatile (to_one me s (Message.Outcome tx outcome))
+ask_step_by me facts volatile s tx key version None =
+    if is_finished facts tx then sending volatile (to_one me s (Message.Finished tx))
+    else ask_step_after me volatile s tx key version (vote_of facts key version tx)
 
 -- a centre s asks for a vote or an outcome
 abbrev pub ask_step : ℕ → List Fact → Volatile → ℕ → TxId → Key → ℕ → NodeStep
-ask_step me facts volatile s tx key version = ask_step_by me volatile s tx key version (heard_of facts tx) (vote_of facts key version tx)
+ask_step me facts volatile s tx key version = ask_step_by me facts volatile s tx key version (outcome_kept facts tx)

@@ -3,16 +3,17 @@ use Rattle.std.specs.Prelude.{Bool, Err, List, None, Ok, Option, Result, Some, [
 use Rattle.mdcc_option.specs.declared.cluster.Cluster.{Cluster}
 use Rattle.mdcc_ledger.specs.BootTest.{is_allowed_fact}
 use Rattle.mdcc_protocol.specs.Facts.{epoch_of}
-use Rattle.mdcc_messages.specs.Lengths.{cells_needed, cells_used}
+use Rattle.mdcc_messages.specs.Lengths.{cells_needed}
+use Rattle.mdcc_protocol.specs.Cells.{cells_held}
 use Rattle.mdcc_messages.specs.declared.facts.Fact.{Fact}
 use Rattle.mdcc_rules.specs.declared.node.BootFault.{BootFault}
 
 -- whether the fact passes the room of a node that has these
 abbrev pub is_past_cells : Cluster → List Fact → Fact → Bool
-is_past_cells cluster facts fact = nat_lt cluster.cells (cells_used facts + cells_needed fact)
+is_past_cells cluster facts fact = nat_lt cluster.cells (cells_held facts + cells_needed fact)
 
 abbrev pub room_fault : Cluster → List Fact → Fact → BootFault
-room_fault cluster facts fact = BootFault.Room (cells_used facts + cells_needed fact) cluster.cells
+room_fault cluster facts fact = BootFault.Room (cells_held facts + cells_needed fact) cluster.cells
 
 -- the payloads in turn, each as its fact where it is one, onto the facts so far, which are as many as the number says
 abbrev pub loaded_from : Cluster → List Fact → ℕ → List (Option Fact) → Result (List Fact) BootFault

@@ -6,7 +6,7 @@ use Rattle.mdcc_base.specs.declared.key.Key.{Key}
 use Rattle.mdcc_option.specs.declared.choices.Choice.{Choice}
 use Rattle.mdcc_option.specs.declared.choices.Claim.{Claim}
 use Rattle.mdcc_option.specs.declared.choices.Outcome.{Outcome}
-use Rattle.mdcc_protocol.specs.Facts.{epoch_of, heard_of}
+use Rattle.mdcc_protocol.specs.Facts.{epoch_of, is_finished, outcome_kept}
 use Rattle.mdcc_protocol.specs.Leader.{claim_of_choice, is_marked, lead, on_promise, on_refused}
 use Rattle.mdcc_ledger.specs.Ledger.{Entry, Valued}
 use Rattle.mdcc_rules.specs.Messages.{to_all, to_one, to_others}
@@ -55,14 +55,16 @@ led_by_answer quorums me volatile claim (Ok (answer, leader)) =
 abbrev pub led_of : Here → Volatile → Claim → Result StepPart LeadFault
 led_of here volatile claim = led_by_answer here.cluster.quorums here.me volatile claim (lead here.cluster here.me (epoch_of here.facts) here.facts volatile.leader claim)
 
--- by what was heard of the transaction
+-- by what is kept of the transaction's outcome, and then by whether it is finished
 abbrev pub lead_step_after : Here → Volatile → ℕ → Choice → Option Outcome → Result NodeStep StepFault
 lead_step_after here volatile s choice (Some outcome) = Ok (sending volatile (to_one here.me s (Message.Outcome choice.tx outcome)))
-lead_step_after here volatile s choice None = step_of_led (led_of here volatile (claim_of_choice choice))
+lead_step_after here volatile s choice None =
+    if is_finished here.facts choice.tx then Ok (sending volatile (to_one here.me s (Message.Finished choice.tx)))
+    else step_of_led (led_of here volatile (claim_of_choice choice))
 
 -- a manager at s asks for a mark
 abbrev pub lead_step : Here → Volatile → ℕ → Choice → Result NodeStep StepFault
-lead_step here volatile s choice = lead_step_after here volatile s choice (heard_of here.facts choice.tx)
+lead_step here volatile s choice = lead_step_after here volatile s choice (outcome_kept here.facts choice.tx)
 
 -- ---- promises
 

@@ -1,5 +1,6 @@
 pub mod AcceptorRules
 pub mod Boot
+pub mod FloorRules
 pub mod Here
 pub mod LeaderRules
 pub mod ManagerRules

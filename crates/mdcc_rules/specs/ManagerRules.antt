@@ -10,7 +10,7 @@ use Rattle.mdcc_option.specs.declared.choices.Outcome.{Outcome}
 use Rattle.mdcc_option.specs.declared.cluster.Cluster.{Cluster}
 use Rattle.mdcc_option.specs.declared.faults.BeginFault.{BeginFault}
 use Rattle.mdcc_option.specs.declared.items.Part.{Part}
-use Rattle.mdcc_protocol.specs.Facts.{epoch_of, is_heard}
+use Rattle.mdcc_protocol.specs.Facts.{epoch_of, is_settled}
 use Rattle.mdcc_ledger.specs.Ledger.{Entry}
 use Rattle.mdcc_protocol.specs.Manager
 use Rattle.mdcc_protocol.specs.Manager.{key_refused}
@@ -91,7 +91,7 @@ watched_step here volatile vote None =
 -- a vote came
 abbrev pub voted_step : Here → Volatile → Vote → NodeStep
 voted_step here volatile vote =
-    if is_heard here.facts vote.tx then nothing_done volatile
+    if is_settled here.facts vote.tx then nothing_done volatile
     else (if is_open volatile.manager vote.tx
     then opened_step here volatile vote (Manager.would_decide here.cluster.quorums volatile.manager vote)
     else watched_step here volatile vote (Recover.would_decide here.cluster.quorums here.facts volatile.recovery vote))

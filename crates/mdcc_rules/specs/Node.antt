@@ -4,7 +4,9 @@ use Rattle.mdcc_option.specs.declared.cluster.Cluster.{Cluster}
 use Rattle.mdcc_rules.specs.AcceptorRules.{accept_step, ask_step, prepare_step, propose_step}
 use Rattle.mdcc_protocol.specs.Belongs.{is_centre, message_belongs}
 use Rattle.mdcc_rules.specs.LeaderRules.{lead_step, promise_step, refused_step}
-use Rattle.mdcc_messages.specs.Lengths.{cells_needed, cells_used}
+use Rattle.mdcc_rules.specs.FloorRules.{finished_step, mark_step, sweep_step}
+use Rattle.mdcc_messages.specs.Lengths.{cells_needed}
+use Rattle.mdcc_protocol.specs.Cells.{cells_held}
 use Rattle.mdcc_rules.specs.ManagerRules.{begin_step, escalate_step, voted_step}
 use Rattle.mdcc_protocol.specs.News.{is_crowding}
 use Rattle.mdcc_rules.specs.Steps.{NodeStep, answering, nothing_done}
@@ -37,13 +39,15 @@ message_step here volatile s (Message.Ask tx key version) = Ok (ask_step here.me
 message_step here volatile s (Message.SyncAsk key) = Ok (sync_ask_step here.me here.facts volatile s key)
 message_step here volatile s (Message.SyncGive key version item adds) =
     Ok (sync_give_step here.facts volatile (record { key = key; version = version; item = item; adds = adds }))
+message_step here volatile s (Message.Mark centre epoch seq) = Ok (mark_step here volatile s centre epoch seq)
+message_step here volatile s (Message.Finished tx) = Ok (finished_step volatile tx)
 message_step here volatile s _ = Ok (nothing_done volatile)
 
 -- ---- room
 
--- the cells of a node that no fact uses
+-- the cells of a node that no fact holds
 abbrev pub cells_spare : Cluster → List Fact → ℕ
-cells_spare cluster facts = cluster.cells - cells_used facts
+cells_spare cluster facts = cluster.cells - cells_held facts
 
 -- whether a fact needs more cells than are spare
 abbrev pub is_without_room : Cluster → List Fact → Fact → Bool
@@ -74,5 +78,6 @@ step_of here volatile (Input.Message envelope) =
     then checked here.cluster here.facts (message_step here volatile envelope.from envelope.message)
     else Err StepFault.Foreign
 step_of here volatile Input.Tick = Ok (tick_step here volatile)
+step_of here volatile Input.Sweep = Ok (sweep_step here volatile)
 step_of here volatile (Input.Read key) = Ok (answering volatile (Answer.Read (Visible.read here.facts key)))
 step_of here volatile (Input.Begin parts) = Ok (begin_step here volatile parts)

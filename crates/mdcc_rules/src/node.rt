@@ -12,6 +12,8 @@ pub enum Input {
     Message(Envelope),
     /// Time has passed.
     Tick,
+    /// The centre tells all how far it has heard.
+    Sweep,
     /// A client reads a key.
     Read(Key),
     /// A client begins a transaction.

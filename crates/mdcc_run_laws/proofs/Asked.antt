@@ -20,7 +20,7 @@ use Rattle.mdcc_run_laws.proofs.Came.{all_back, all_by, all_front, all_joined, m
 use Rattle.mdcc_run_laws.proofs.Tables.{own_holds, turn_holds}
 use Rattle.mdcc_run_laws.specs.Brought.{AreBytes, BringsRequest, HoldsBytes, IsMessageIn, asked_datagrams}
 use Rattle.mdcc_run_laws.specs.Inputs.{asked_input, asked_inputs, asked_message_input, begin_input, inputs_in, own_input, own_inputs, own_message_input, tick_input, turn_inputs}
-use Rattle.mdcc_runs.specs.Arrivals.{Arrival, arrival_of, is_for_client, message_in}
+use Rattle.mdcc_runs.specs.Arrivals.{Arrival, arrival_of, is_not_taken, message_in}
 use Rattle.mdcc_runs.specs.Clients.{begun_for}
 use Rattle.mdcc_runs.specs.Runs.{listed}
 use Rattle.mdcc_runs.specs.Sites.{Site}
@@ -30,6 +30,7 @@ requests_later : (schema : List (ℤ × ℤ)) (table : List Entry) (gave : Optio
     → BringsRequest schema (table_after (listed gave) table) more input → BringsRequest schema table (listed gave ++ more) input
 requests_later schema table gave more (Input.Message envelope) is = tt
 requests_later schema table gave more Input.Tick is = tt
+requests_later schema table gave more Input.Sweep is = tt
 requests_later schema table gave more (Input.Read key) is =
     record { envelope = is.envelope; serial = is.serial; is = is.is; came = message_later table gave more is.envelope is.came }
 requests_later schema table gave more (Input.Begin parts) is =
@@ -71,7 +72,7 @@ asked_bring config site (Some bytes) more holds came = asked_brings config site 
 -- what comes at its own endpoint is no request
 module _ (schema : List (ℤ × ℤ)) (table : List Entry) (datagrams : List (List ℕ)) where
   own_message_none : (envelope : Envelope) → AllByRecursion (BringsRequest schema table datagrams) (own_message_input envelope)
-  own_message_none envelope = by_kind (is_for_client envelope.message)
+  own_message_none envelope = by_kind (is_not_taken envelope.message)
     where
       by_kind : (b : Bool) → AllByRecursion (BringsRequest schema table datagrams) (cond b [] (Input.Message envelope ∷ []))
       by_kind true = tt

@@ -20,7 +20,7 @@ use Rattle.mdcc_run_laws.proofs.Joining.{bytes_keep}
 use Rattle.mdcc_run_laws.proofs.Tables.{turn_holds}
 use Rattle.mdcc_run_laws.specs.Brought.{AreBytes, BringsMessage, HoldsBytes, IsJoined, IsMessageIn, own_datagrams}
 use Rattle.mdcc_run_laws.specs.Inputs.{asked_input, asked_inputs, asked_message_input, begin_input, inputs_in, own_input, own_inputs, tick_input, turn_inputs}
-use Rattle.mdcc_runs.specs.Arrivals.{Arrival, arrival_of, is_for_client, message_in}
+use Rattle.mdcc_runs.specs.Arrivals.{Arrival, arrival_of, is_not_taken, message_in}
 use Rattle.mdcc_runs.specs.Clients.{begun_for}
 use Rattle.mdcc_runs.specs.Runs.{listed}
 use Rattle.mdcc_runs.specs.Sites.{Site}
@@ -92,6 +92,7 @@ brings_later : (table : List Entry) (gave : Option (List ℕ)) (more : List (Lis
     → BringsMessage (table_after (listed gave) table) more input → BringsMessage table (listed gave ++ more) input
 brings_later table gave more (Input.Message envelope) is = (message_later table gave more envelope is.0, is.1)
 brings_later table gave more Input.Tick is = tt
+brings_later table gave more Input.Sweep is = tt
 brings_later table gave more (Input.Read key) is = tt
 brings_later table gave more (Input.Begin parts) is = tt
 
@@ -102,14 +103,14 @@ own_brings site last more joined.Repeated is holds came = tt
 own_brings site last more (joined.Dropped cause) is holds came = tt
 own_brings site last more (joined.Whole bytes) is holds came = by_view (view_of bytes) refl
   where
-    by_kind : (envelope : Envelope) (b : Bool) → view_of bytes ≡ Ok envelope → is_for_client envelope.message ≡ b
+    by_kind : (envelope : Envelope) (b : Bool) → view_of bytes ≡ Ok envelope → is_not_taken envelope.message ≡ b
         → AllByRecursion (BringsMessage site.own (last ∷ more)) (cond b [] (Input.Message envelope ∷ []))
     by_kind envelope true read kind = tt
     by_kind envelope false read kind = ((message_came site.own last more bytes envelope holds came is read, kind), tt)
 
     by_view : (r : Result Envelope WireFault) → view_of bytes ≡ r → AllByRecursion (BringsMessage site.own (last ∷ more)) (own_input (message_in r))
     by_view (Err fault) read = tt
-    by_view (Ok envelope) read = by_kind envelope (is_for_client envelope.message) read refl
+    by_view (Ok envelope) read = by_kind envelope (is_not_taken envelope.message) read refl
 
 own_bring : (site : Site) (gave : Option (List ℕ)) (more : List (List ℕ)) → HoldsBytes site.own → AllByRecursion AreBytes (listed gave)
     → AllByRecursion (BringsMessage site.own (listed gave ++ more)) (own_inputs site gave)

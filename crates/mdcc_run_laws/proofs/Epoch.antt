@@ -12,7 +12,7 @@ use Rattle.mdcc_option.specs.declared.choices.Outcome.{Outcome}
 use Rattle.mdcc_option.specs.declared.cluster.Cluster.{Cluster}
 use Rattle.mdcc_option.specs.declared.items.Part.{Part}
 use Rattle.mdcc_protocol.specs.Acceptor.{on_accept, on_prepare, on_propose}
-use Rattle.mdcc_protocol.specs.Facts.{epoch_of, heard_of, is_heard, vote_of}
+use Rattle.mdcc_protocol.specs.Facts.{epoch_of, is_finished, is_settled, outcome_kept, vote_of}
 use Rattle.mdcc_protocol.specs.Leader.{claim_of_choice, on_promise}
 use Rattle.mdcc_protocol.specs.Manager
 use Rattle.mdcc_protocol.specs.News.{is_crowding, is_news}
@@ -27,12 +27,13 @@ use Rattle.mdcc_option.specs.declared.faults.BeginFault.{BeginFault}
 use Rattle.mdcc_protocol.specs.declared.manager.ManagerAct.{ManagerAct}
 use Rattle.mdcc_protocol.specs.declared.votes.Vote.{Vote}
 use Rattle.mdcc_protocol.specs.declared.visible.Give.{Give}
-use Rattle.mdcc_rules.specs.AcceptorRules.{accepted_step, ask_step_by, prepared_step, proposed_step}
+use Rattle.mdcc_rules.specs.AcceptorRules.{accepted_step, ask_step_after, ask_step_by, prepared_step, proposed_step}
 use Rattle.mdcc_rules.specs.Here.{Here, here}
 use Rattle.mdcc_rules.specs.LeaderRules.{lead_step_after, led_of, promised_by_answer, step_of_led}
 use Rattle.mdcc_rules.specs.ManagerRules.{acted_step, begin_step_by, opened_step, voted_step, watched_step}
+use Rattle.mdcc_rules.specs.Messages.{to_one}
 use Rattle.mdcc_rules.specs.Node.{checked, is_own_message, is_without_room, message_step, step_of, with_room}
-use Rattle.mdcc_rules.specs.Steps.{NodeStep, StepPart, nothing_done, with_new}
+use Rattle.mdcc_rules.specs.Steps.{NodeStep, StepPart, nothing_done, sending, with_new}
 use Rattle.mdcc_rules.specs.SyncRules.{outcome_step, outcome_step_by, sync_give_step, sync_give_step_by}
 use Rattle.mdcc_rules.specs.declared.node.Input.{Input}
 use Rattle.mdcc_rules.specs.declared.node.StepFault.{StepFault}
@@ -51,6 +52,7 @@ StepKeeps (Err fault) = ⊤
 
 proposed_keeps : (me : ℕ) (volatile : Volatile) (s : ℕ) (choice : Choice) (answer : ProposeAnswer) → Keeps (proposed_step me volatile s choice answer).fact
 proposed_keeps me volatile s choice (ProposeAnswer.Known outcome) facts = refl
+proposed_keeps me volatile s choice ProposeAnswer.Finished facts = refl
 proposed_keeps me volatile s choice (ProposeAnswer.Again ballot mark) facts = refl
 proposed_keeps me volatile s choice (ProposeAnswer.Escalate cause) facts = refl
 proposed_keeps me volatile s choice (ProposeAnswer.Vote mark) facts = refl
@@ -68,11 +70,15 @@ accepted_keeps me had volatile l key version ballot options (AcceptAnswer.Behind
 accepted_keeps me had volatile l key version ballot options AcceptAnswer.Older facts = refl
 accepted_keeps me had volatile l key version ballot options AcceptAnswer.Vote facts = refl
 
-asked_keeps : (me : ℕ) (volatile : Volatile) (s : ℕ) (tx : TxId) (key : Key) (version : ℕ) (heard : Option Outcome) (vote : Option (Ballot × Mark))
-    → Keeps (ask_step_by me volatile s tx key version heard vote).fact
-asked_keeps me volatile s tx key version (Some outcome) vote facts = refl
-asked_keeps me volatile s tx key version None (Some vote) facts = refl
-asked_keeps me volatile s tx key version None None facts = refl
+asked_keeps : (me : ℕ) (had : List Fact) (volatile : Volatile) (s : ℕ) (tx : TxId) (key : Key) (version : ℕ) (kept : Option Outcome)
+    → Keeps (ask_step_by me had volatile s tx key version kept).fact
+asked_keeps me had volatile s tx key version (Some outcome) = λ facts. refl
+asked_keeps me had volatile s tx key version None = by_both (is_finished had tx) (vote_of had key version tx)
+  where
+    by_both : (finished : Bool) (vote : Option (Ballot × Mark)) → Keeps (cond finished (sending volatile (to_one me s (Message.Finished tx))) (ask_step_after me volatile s tx key version vote)).fact
+    by_both true vote = λ facts. refl
+    by_both false (Some vote) = λ facts. refl
+    by_both false None = λ facts. refl
 
 -- ---- leader
 
@@ -82,7 +88,11 @@ led_keeps (Err fault) = tt
 
 lead_keeps : (had : Here) (volatile : Volatile) (s : ℕ) (choice : Choice) (heard : Option Outcome) → StepKeeps (lead_step_after had volatile s choice heard)
 lead_keeps had volatile s choice (Some outcome) = λ facts. refl
-lead_keeps had volatile s choice None = led_keeps (led_of had volatile (claim_of_choice choice))
+lead_keeps had volatile s choice None = by_finished (is_finished had.facts choice.tx)
+  where
+    by_finished : (finished : Bool) → StepKeeps (cond finished (Ok (sending volatile (to_one had.me s (Message.Finished choice.tx)))) (step_of_led (led_of had volatile (claim_of_choice choice))))
+    by_finished true = λ facts. refl
+    by_finished false = led_keeps (led_of had volatile (claim_of_choice choice))
 
 -- ---- manager
 
@@ -103,7 +113,7 @@ watched_keeps had volatile vote None facts = refl
 
 voted_keeps : (had : Here) (volatile : Volatile) (vote : Vote) → Keeps (voted_step had volatile vote).fact
 voted_keeps had volatile vote =
-    by_both (is_heard had.facts vote.tx) (is_open volatile.manager vote.tx)
+    by_both (is_settled had.facts vote.tx) (is_open volatile.manager vote.tx)
   where
     by_both : (heard opened : Bool) → Keeps (cond heard (nothing_done volatile)
         (cond opened (opened_step had volatile vote (Manager.would_decide had.cluster.quorums volatile.manager vote))
@@ -115,7 +125,7 @@ voted_keeps had volatile vote =
 -- ---- what is heard and passed on
 
 outcome_keeps : (had : List Fact) (volatile : Volatile) (tx : TxId) (outcome : Outcome) → Keeps (outcome_step had volatile tx outcome).fact
-outcome_keeps had volatile tx outcome = by_heard (is_heard had tx)
+outcome_keeps had volatile tx outcome = by_heard (is_settled had tx)
   where
     by_heard : (heard : Bool) → Keeps (outcome_step_by volatile tx (cond heard None (Some (Fact.Heard tx outcome)))).fact
     by_heard true facts = refl
@@ -136,7 +146,7 @@ message_keeps had volatile s (Message.Voted key version ballot tx mark) =
     voted_keeps had volatile (record { from = s; key = key; version = version; ballot = ballot; tx = tx; mark = mark })
 message_keeps had volatile s (Message.Escalate key version tx cause) =
     acted_keeps had.me had.facts volatile (Manager.on_escalate had.cluster.quorums volatile.manager s tx key cause)
-message_keeps had volatile s (Message.Lead choice) = lead_keeps had volatile s choice (heard_of had.facts choice.tx)
+message_keeps had volatile s (Message.Lead choice) = lead_keeps had volatile s choice (outcome_kept had.facts choice.tx)
 message_keeps had volatile s (Message.Prepare key version through ballot) =
     prepared_keeps had.me had.facts volatile s key version ballot (on_prepare had.facts key version through ballot)
 message_keeps had volatile s (Message.Promise key version through ballot reported votes) =
@@ -147,13 +157,15 @@ message_keeps had volatile s (Message.Accept key version ballot options) =
 message_keeps had volatile s (Message.Refused key version ballot promised) = λ facts. refl
 message_keeps had volatile s (Message.Outcome tx outcome) = outcome_keeps had.facts volatile tx outcome
 message_keeps had volatile s (Message.Ask tx key version) =
-    asked_keeps had.me volatile s tx key version (heard_of had.facts tx) (vote_of had.facts key version tx)
+    asked_keeps had.me had.facts volatile s tx key version (outcome_kept had.facts tx)
 message_keeps had volatile s (Message.SyncAsk key) = λ facts. refl
 message_keeps had volatile s (Message.SyncGive key version item adds) =
     give_keeps had.facts volatile (record { key = key; version = version; item = item; adds = adds })
 message_keeps had volatile s (Message.ClientRead serial key) = λ facts. refl
 message_keeps had volatile s (Message.ClientBegin serial parts) = λ facts. refl
 message_keeps had volatile s (Message.ClientAnswer serial answer) = λ facts. refl
+message_keeps had volatile s (Message.Mark centre epoch seq) = λ facts. refl
+message_keeps had volatile s (Message.Finished tx) = λ facts. refl
 
 room_keeps : (cluster : Cluster) (had : List Fact) (step : NodeStep) (fact : Option Fact) → Keeps step.fact → StepKeeps (with_room cluster had step fact)
 room_keeps cluster had step None keeps = keeps
@@ -176,6 +188,7 @@ step_keeps had volatile (Input.Message envelope) = by_own (is_own_message had.cl
         checked_keeps had.cluster had.facts (message_step had volatile envelope.from envelope.message) (message_keeps had volatile envelope.from envelope.message)
     by_own false = tt
 step_keeps had volatile Input.Tick = λ facts. refl
+step_keeps had volatile Input.Sweep = λ facts. refl
 step_keeps had volatile (Input.Read key) = λ facts. refl
 step_keeps had volatile (Input.Begin parts) = begun_keeps had volatile parts (Manager.begin had.me (epoch_of had.facts) had.facts volatile.manager parts)
 

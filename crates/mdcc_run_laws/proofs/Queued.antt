@@ -15,7 +15,7 @@ use Rattle.mdcc_rules.specs.declared.node.Answer.{Answer}
 use Rattle.mdcc_rules.specs.declared.node.Input.{Input}
 use Rattle.mdcc_rules.specs.declared.node.StepFault.{StepFault}
 use Rattle.mdcc_runs.specs.Acts.{Act}
-use Rattle.mdcc_runs.specs.Arrivals.{Arrival, arrival_of, is_for_client}
+use Rattle.mdcc_runs.specs.Arrivals.{Arrival, arrival_of, is_not_taken}
 use Rattle.mdcc_runs.specs.Clients.{begun_for}
 use Rattle.mdcc_runs.specs.Runs.{listed, step_on}
 use Rattle.mdcc_runs.specs.Sites.{Doing, Pending, Site, after_acts, and_then, doing, idle, nothing_pending}
@@ -120,7 +120,7 @@ input_queued config site input = made_queued site (step_on config.cluster site.c
 -- ---- receives
 
 own_message_queued : (config : Config) (site : Site) (x : Envelope) → own_message config site x ≡ above site (own_message config (bare site) x)
-own_message_queued config site x = by_kind (is_for_client x.message)
+own_message_queued config site x = by_kind (is_not_taken x.message)
   where
     by_kind : (b : Bool) → cond b (dropped site) (input_taken config site (Input.Message x)) ≡ above site (cond b (dropped (bare site)) (input_taken config (bare site) (Input.Message x)))
     by_kind true = dropped_queued site

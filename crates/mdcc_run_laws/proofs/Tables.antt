@@ -15,7 +15,7 @@ use Rattle.mdcc_rules.specs.declared.node.Answer.{Answer}
 use Rattle.mdcc_rules.specs.declared.node.Input.{Input}
 use Rattle.mdcc_rules.specs.declared.node.StepFault.{StepFault}
 use Rattle.mdcc_run_laws.proofs.Outgoing.{out_site}
-use Rattle.mdcc_runs.specs.Arrivals.{Arrival, arrival_of, is_for_client}
+use Rattle.mdcc_runs.specs.Arrivals.{Arrival, arrival_of, is_not_taken}
 use Rattle.mdcc_runs.specs.Clients.{begun_for}
 use Rattle.mdcc_runs.specs.Runs.{listed, step_on}
 use Rattle.mdcc_runs.specs.Sites.{Site, idle}
@@ -65,7 +65,7 @@ begin_by_holds config site serial parts None = draft_holds config site serial (t
 -- ---- receives
 
 own_message_holds : (config : Config) (site : Site) (x : Envelope) → Holds site.own site.asked (own_message config site x).site
-own_message_holds config site x = by_kind (is_for_client x.message)
+own_message_holds config site x = by_kind (is_not_taken x.message)
   where
     by_kind : (b : Bool) → Holds site.own site.asked (cond b (dropped site) (input_taken config site (Input.Message x))).site
     by_kind true = same_tables site

@@ -12,7 +12,7 @@ use Rattle.mdcc_run_laws.proofs.Queued.{quiet}
 use Rattle.mdcc_run_laws.proofs.Seen.{inward_received}
 use Rattle.mdcc_run_laws.proofs.Stepped.{begin_leaves, dropped_leaves, idle_leaves, input_leaves, read_leaves}
 use Rattle.mdcc_run_laws.specs.Inputs.{asked_input, asked_inputs, asked_message_input, own_input, own_inputs, own_message_input, tick_input, turn_inputs}
-use Rattle.mdcc_runs.specs.Arrivals.{Arrival, arrival_of, is_for_client}
+use Rattle.mdcc_runs.specs.Arrivals.{Arrival, arrival_of, is_not_taken}
 use Rattle.mdcc_runs.specs.Runs.{NodeState, run_of}
 use Rattle.mdcc_runs.specs.Sites.{Doing, Site, after_acts, idle}
 use Rattle.mdcc_runs.specs.Steps.{dropped, input_taken}
@@ -35,7 +35,7 @@ runs_then config site xs ys {first = first} {second = second} one two =
 -- ---- at its own endpoint
 
 own_message_runs : (config : Config) (site : Site) (x : Envelope) → RunsOn config site (own_message_input x) (own_message config site x)
-own_message_runs config site x = by_kind (is_for_client x.message)
+own_message_runs config site x = by_kind (is_not_taken x.message)
   where
     by_kind : (b : Bool) → RunsOn config site (cond b [] (Input.Message x ∷ [])) (cond b (dropped site) (input_taken config site (Input.Message x)))
     by_kind true = dropped_leaves site

@@ -16,7 +16,7 @@ use Rattle.mdcc_messages.specs.declared.messages.Message.{Message}
 use Rattle.mdcc_option.specs.Transaction.{transaction_of}
 use Rattle.mdcc_option.specs.declared.items.Part.{Part}
 use Rattle.mdcc_rules.specs.declared.node.Input.{Input}
-use Rattle.mdcc_runs.specs.Arrivals.{is_for_client}
+use Rattle.mdcc_runs.specs.Arrivals.{is_not_taken}
 use Rattle.mdcc_runs.specs.Runs.{listed}
 use Rattle.mdcc_runs.specs.Turns.{Given}
 
@@ -70,8 +70,9 @@ pub record IsMessageIn (table : List Entry) (datagrams : List (List ℕ)) (envel
 
 -- a message that is an input came in datagrams, and does not go between a node and its client
 abbrev pub BringsMessage : List Entry → List (List ℕ) → Input → Type 0
-BringsMessage table datagrams (Input.Message envelope) = IsMessageIn table datagrams envelope × (is_for_client envelope.message ≡ false)
+BringsMessage table datagrams (Input.Message envelope) = IsMessageIn table datagrams envelope × (is_not_taken envelope.message ≡ false)
 BringsMessage table datagrams Input.Tick = ⊤
+BringsMessage table datagrams Input.Sweep = ⊤
 BringsMessage table datagrams (Input.Read key) = ⊤
 BringsMessage table datagrams (Input.Begin parts) = ⊤
 
@@ -95,5 +96,6 @@ pub record AsksBegin (schema : List (ℤ × ℤ)) (table : List Entry) (datagram
 abbrev pub BringsRequest : List (ℤ × ℤ) → List Entry → List (List ℕ) → Input → Type 0
 BringsRequest schema table datagrams (Input.Message envelope) = ⊤
 BringsRequest schema table datagrams Input.Tick = ⊤
+BringsRequest schema table datagrams Input.Sweep = ⊤
 BringsRequest schema table datagrams (Input.Read key) = AsksRead table datagrams key
 BringsRequest schema table datagrams (Input.Begin parts) = AsksBegin schema table datagrams parts

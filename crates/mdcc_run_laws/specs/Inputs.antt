@@ -9,7 +9,7 @@ use Rattle.mdcc_option.specs.Transaction.{transaction_of}
 use Rattle.mdcc_option.specs.declared.faults.DraftFault.{DraftFault}
 use Rattle.mdcc_option.specs.declared.items.Part.{Part}
 use Rattle.mdcc_rules.specs.declared.node.Input.{Input}
-use Rattle.mdcc_runs.specs.Arrivals.{Arrival, arrival_of, is_for_client}
+use Rattle.mdcc_runs.specs.Arrivals.{Arrival, arrival_of, is_not_taken}
 use Rattle.mdcc_runs.specs.Clients.{begun_for}
 use Rattle.mdcc_runs.specs.Sending.{persist_then_send}
 use Rattle.mdcc_runs.specs.Sites.{Doing, Site, and_then, idle}
@@ -19,7 +19,7 @@ use Rattle.mdcc_runs.specs.Turns.{Given, is_silent, own_received, turn_of}
 
 -- what goes between a node and its client is no input there
 abbrev pub own_message_input : Envelope → List Input
-own_message_input envelope = if is_for_client envelope.message then [] else (Input.Message envelope ∷ [])
+own_message_input envelope = if is_not_taken envelope.message then [] else (Input.Message envelope ∷ [])
 
 abbrev pub own_input : Arrival → List Input
 own_input Arrival.Piece = []

@@ -12,7 +12,7 @@ use Rattle.mdcc_messages.specs.declared.messages.Message.{Message}
 use Rattle.mdcc_run_laws.specs.Inputs.{inputs_in, turns}
 use Rattle.mdcc_run_laws.specs.Told.{lines_in, sends_in}
 use Rattle.mdcc_runs.specs.Acts.{appended, steps_in}
-use Rattle.mdcc_runs.specs.Arrivals.{Arrival, is_for_client, message_in}
+use Rattle.mdcc_runs.specs.Arrivals.{Arrival, is_not_taken, message_in}
 use Rattle.mdcc_runs.specs.Sites.{Doing, Site}
 use Rattle.mdcc_runs.specs.Turns.{Given, is_silent, turn_of}
 
@@ -22,7 +22,7 @@ use Rattle.mdcc_runs.specs.Turns.{Given, is_silent, turn_of}
 abbrev pub is_unfit : Arrival → Bool
 is_unfit Arrival.Piece = false
 is_unfit Arrival.Refused = true
-is_unfit (Arrival.Whole envelope) = is_for_client envelope.message
+is_unfit (Arrival.Whole envelope) = is_not_taken envelope.message
 
 -- a client asks it of its centre
 abbrev pub is_request : Message → Bool

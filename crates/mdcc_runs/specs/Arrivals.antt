@@ -31,3 +31,12 @@ is_for_client (Message.ClientRead serial key) = true
 is_for_client (Message.ClientBegin serial parts) = true
 is_for_client (Message.ClientAnswer serial answer) = true
 is_for_client _ = false
+
+-- whether a centre takes no such message: it goes between a node and its client, or its rule is not built
+abbrev pub is_not_taken : Message → Bool
+is_not_taken (Message.ClientRead serial key) = true
+is_not_taken (Message.ClientBegin serial parts) = true
+is_not_taken (Message.ClientAnswer serial answer) = true
+is_not_taken (Message.Mark centre epoch seq) = true
+is_not_taken (Message.Finished tx) = true
+is_not_taken _ = false

@@ -10,7 +10,7 @@ use Rattle.mdcc_messages.specs.declared.messages.Envelope.{Envelope}
 use Rattle.mdcc_messages.specs.declared.messages.Message.{Message}
 use Rattle.mdcc_rules.specs.declared.node.Input.{Input}
 use Rattle.mdcc_runs.specs.Acts.{Act, steps_in}
-use Rattle.mdcc_runs.specs.Arrivals.{Arrival, arrival_of, is_for_client}
+use Rattle.mdcc_runs.specs.Arrivals.{Arrival, arrival_of, is_not_taken}
 use Rattle.mdcc_runs.specs.Sending.{persist_then_send}
 use Rattle.mdcc_runs.specs.Sites.{Doing, Pending, Site, after_acts, and_then, idle}
 use Rattle.mdcc_runs.specs.Steps.{begin_taken, dropped, input_taken, read_taken}
@@ -25,7 +25,7 @@ pub record Given : Type 0 where
 -- ---- at its own endpoint
 
 abbrev pub own_message : Config → Site → Envelope → Doing
-own_message config site envelope = if is_for_client envelope.message then dropped site else input_taken config site (Input.Message envelope)
+own_message config site envelope = if is_not_taken envelope.message then dropped site else input_taken config site (Input.Message envelope)
 
 abbrev pub own_arrived : Config → Site → Arrival → Doing
 own_arrived config site Arrival.Piece = idle site
@@ -88,7 +88,7 @@ waiting_size envelope = if nat_lt message_limit (message_length envelope) then 0
 abbrev pub pending_size : Pending → ℕ
 pending_size pending = sum_over (λ fact. length (fact_bytes fact)) pending.facts + sum_over waiting_size pending.envelopes
 
--- once so many bytes of facts and messages are pending no more inputs are taken before they go out
+-- once so many bytes of facts and messages are pending they go out at the end of the turn, whatever waits
 abbrev pub pending_limit : ℕ
 pending_limit = 262144
 

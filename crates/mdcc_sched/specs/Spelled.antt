@@ -6,7 +6,7 @@ use Rattle.mdcc_option.specs.declared.cluster.Cluster.{Cluster}
 use Rattle.mdcc_language.specs.Report.{image_text}
 use Rattle.mdcc_language.specs.Schedule.{line_of}
 use Rattle.mdcc_language.specs.declared.events.Event.{Event}
-use Rattle.mdcc_language.specs.declared.events.Event.TheVariants.{Read, Begin, Deliver, Settle, Tick, Crash, Restart, Stop}
+use Rattle.mdcc_language.specs.declared.events.Event.TheVariants.{Read, Begin, Deliver, Settle, Tick, Sweep, Crash, Restart, Stop}
 use Rattle.mdcc_words.specs.Spelled.{update_text}
 
 -- numbers with spaces between them
@@ -20,6 +20,7 @@ event_text (Deliver numbers) = codes "deliver " ++ numbers_text numbers
 event_text (Settle []) = codes "settle"
 event_text (Settle (centre ∷ centres)) = codes "settle " ++ numbers_text (centre ∷ centres)
 event_text (Tick centre) = codes "tick " ++ decimal centre
+event_text (Sweep centre) = codes "sweep " ++ decimal centre
 event_text (Crash centre) = codes "crash " ++ decimal centre
 event_text (Restart centre) = codes "restart " ++ decimal centre
 event_text (Stop centre call image) = codes "stop " ++ (decimal centre ++ (32 ∷ (decimal call ++ (32 ∷ image_text image))))

@@ -220,6 +220,7 @@ fn write_words(line: &Line, text: &mut String) -> Result<(), AllocError>
         Line::Settle(centres) => write_settle(centres.as_slice(), text),
         Line::Settled(count, next) => write!(text, "settled {count} next {next}"),
         Line::Tick(centre, next) => write!(text, "tick {centre} next {next}"),
+        Line::Sweep(centre, next) => write!(text, "sweep {centre} next {next}"),
         Line::Crash(centre) => write!(text, "crash {centre}"),
         Line::Stop(centre, call, image) => write_stop(*centre, *call, image, text),
         Line::Restart(centre, epoch) => write!(text, "restart {centre} epoch {epoch}"),

@@ -143,6 +143,8 @@ fn lines_of_centres(rt: HostRuntime) -> Result<(), Fail> {
         Line::Tick(centre(&rt, 2), 19),
         "tick 2 next 19\n",
     )?;
+    let sweep = Line::Sweep(centre(&rt, 2), 19);
+    check(&rt, alloc, sweep, "sweep 2 next 19\n")?;
     check(&rt, alloc, Line::Crash(fourth), "crash 4\n")?;
     check(
         &rt,

@@ -54,6 +54,7 @@ fn whole_lines(rt: HostRuntime) {
             ("reads 1 a\n", 1, Word),
             ("settled\n", 1, Word),
             ("tic 1\n", 1, Word),
+            ("sweep 1\n", 1, Word),
             ("crashes 1\n", 1, Word),
             ("Restart 1\n", 1, Word),
             ("stops 1 1 lost\n", 1, Word),

@@ -102,6 +102,8 @@ fn message_belongs(cluster: &Cluster, message: &Message) -> bool
         Message::SyncGive { item, adds, .. } => {
             item_belongs(cluster, item) && adds_belong(cluster, adds.as_slice())
         }
+        Message::Mark { centre, .. } => is_centre(cluster, centre.number()),
+        Message::Finished(tx) => tx_belongs(cluster, tx),
         Message::ClientBegin { parts, .. } => updates_belong(cluster, parts.as_slice()),
         Message::ClientAnswer { answer, .. } => client_answer_belongs(cluster, answer),
         _ => true,

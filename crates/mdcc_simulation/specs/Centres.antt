@@ -19,6 +19,13 @@ tick_line a w = Line.Tick a (next_message w) ∷ []
 abbrev pub after_tick : World → ℕ → Result Happened EventFault
 after_tick w a = with_lines (tick_line a) (input_applied w a Input.Tick)
 
+abbrev pub sweep_line : ℕ → World → List Line
+sweep_line a w = Line.Sweep a (next_message w) ∷ []
+
+-- a sweep line
+abbrev pub after_sweep : World → ℕ → Result Happened EventFault
+after_sweep w a = with_lines (sweep_line a) (input_applied w a Input.Sweep)
+
 -- a crash line: all but the log is lost
 abbrev pub crash_happened : World → ℕ → Happened
 crash_happened w a = record { world = with_centre w a (down (centre_at w a).tail); lines = Line.Crash a ∷ [] }

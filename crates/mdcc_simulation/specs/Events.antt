@@ -1,4 +1,4 @@
--- What each of the eight events of a schedule does to the world.
+-- What each of the nine events of a schedule does to the world.
 use Rattle.std.specs.Prelude.{Bool, Err, Ok, Result, [], false, if◌then◌else◌, true}
 use Rattle.mdcc_protocol.specs.Belongs.{is_centre}
 use Rattle.mdcc_language.specs.declared.events.Event.{Event}
@@ -7,7 +7,7 @@ use Rattle.mdcc_simulation.specs.State.{World, is_up_at, Happened, counted_event
 use Rattle.mdcc_simulation.specs.Limits.{within_events, if_up}
 use Rattle.mdcc_simulation.specs.Deliveries.{after_deliveries, after_settle}
 use Rattle.mdcc_simulation.specs.Clients.{read_happened, after_begin}
-use Rattle.mdcc_simulation.specs.Centres.{after_tick, crash_happened, after_restart, stop_happened}
+use Rattle.mdcc_simulation.specs.Centres.{after_sweep, after_tick, crash_happened, after_restart, stop_happened}
 
 -- what an event does, its own count apart
 abbrev pub happened_of : World → Event → Result Happened EventFault
@@ -16,6 +16,7 @@ happened_of w (Event.Begin a words) = if_up w a (after_begin w a words)
 happened_of w (Event.Deliver numbers) = after_deliveries numbers (record { world = w; lines = [] })
 happened_of w (Event.Settle listed) = after_settle w listed
 happened_of w (Event.Tick a) = if_up w a (after_tick w a)
+happened_of w (Event.Sweep a) = if_up w a (after_sweep w a)
 happened_of w (Event.Crash a) = if_up w a (Ok (crash_happened w a))
 happened_of w (Event.Restart a) =
     if is_up_at w a then Err (EventFault.Up a) else (if is_centre w.cluster a then after_restart w a else Err (EventFault.Down a))

@@ -3,7 +3,8 @@ use Rattle.std.specs.Option.{option_or}
 use Rattle.std.specs.Prelude.{Bool, Err, List, None, Ok, Option, Result, Some, false, if◌then◌else◌, is_some, nat_le, nat_lt, true, ℕ, ◌&&◌, ◌+◌, ◌^◌, ◌∷◌}
 use Rattle.mdcc_rules.specs.Boot.{is_past_cells}
 use Rattle.mdcc_ledger.specs.Ledger.{facts_of}
-use Rattle.mdcc_messages.specs.Lengths.{cells_needed, cells_used, log_length, messages_length}
+use Rattle.mdcc_messages.specs.Lengths.{cells_needed, log_length, messages_length}
+use Rattle.mdcc_protocol.specs.Cells.{cells_held}
 use Rattle.mdcc_rules.specs.Steps.{NodeStep}
 use Rattle.mdcc_messages.specs.declared.facts.Fact.{Fact}
 use Rattle.mdcc_language.specs.declared.lines.Line.{Line}
@@ -53,7 +54,7 @@ step_limit w a (Err fault) = None
 abbrev pub passed_cells_limit : World → ℕ → Fact → Option EventFault
 passed_cells_limit w a fact =
     let facts = facts_of w.ledger a in
-    limit_if (is_past_cells w.cluster facts fact) LimitName.Cells (cells_used facts + cells_needed fact)
+    limit_if (is_past_cells w.cluster facts fact) LimitName.Cells (cells_held facts + cells_needed fact)
 
 -- what happens where no limit is passed
 abbrev pub unless_limit : {X : Type 0} → Option EventFault → X → Result X EventFault

@@ -1,5 +1,5 @@
 -- What the node of a centre makes of an input.
-use Rattle.std.proofs.Common.{◌≡◌, ℕ, ◌+◌, ◌-◌, List, [], ◌∷◌, Option, Some, None, Result, Ok, Err, refl, ◌∙◌, subst, arith}
+use Rattle.std.proofs.Common.{◌≡◌, ℕ, ◌+◌, ◌-◌, List, [], ◌∷◌, Option, Some, None, Result, Ok, Err, ap, refl, sym, ◌∙◌, subst, arith}
 use Rattle.std.specs.List.{AllByRecursion}
 use Rattle.std.specs.Prelude.{IfSome}
 use Rattle.mdcc_base.specs.Unless.{GivesUnless}
@@ -18,6 +18,7 @@ use Rattle.mdcc_node.specs.Represents.{RepresentsAfter, RepresentsCentre}
 use Rattle.mdcc_node.specs.StepAnswers.{IsGiven, UnlessMemory, step_result, is_step_memory, room_of, step_by}
 use Rattle.mdcc_node.specs.declared.node.Node.{Node}
 use Rattle.mdcc_option.specs.declared.cluster.Cluster.{Cluster}
+use Rattle.mdcc_protocol.proofs.Plain.{cells_plain}
 use Rattle.mdcc_protocol.specs.Volatile.{Volatile}
 use Rattle.mdcc_rules.specs.Here.{here}
 use Rattle.mdcc_rules.specs.Node.{step_of}
@@ -60,7 +61,7 @@ module _ (node : Node CentreStore) (cluster : Cluster) (me : ℕ) (facts : List 
   -- its step is the one of the definitions
   step_roomy : (input : Input) → step_by (room_of spare_of needed_in node.store) cluster me facts volatile input ≡ step_of (here cluster me facts) volatile input
   step_roomy input =
-      counted_steps (room_of spare_of needed_in node.store) cluster me facts volatile input (left_over (spare_of node.store) (cells_used facts) cluster.cells is.spare) (λ fact. refl)
+      counted_steps (room_of spare_of needed_in node.store) cluster me facts volatile input (left_over (spare_of node.store) (cells_used facts) cluster.cells is.spare ∙ ap (λ (n : ℕ). cluster.cells - n) (sym (cells_plain facts is.itself.store.added.no_floor))) (λ fact. refl)
 
   module _ (after : Node CentreStore) where
     spent : (o : Option Fact) → spare_of after.store + cells_taken (needed_in node.store) o ≡ spare_of node.store → spare_of after.store + cells_used (with_new facts o) ≡ cluster.cells

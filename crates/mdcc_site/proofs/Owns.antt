@@ -26,7 +26,7 @@ use Rattle.mdcc_rules.specs.declared.node.Answer.{Answer}
 use Rattle.mdcc_rules.specs.declared.node.Input.{Input}
 use Rattle.mdcc_rules.specs.declared.node.StepFault.{StepFault}
 use Rattle.mdcc_runs.specs.Acts.{Act, appended, but_answers}
-use Rattle.mdcc_runs.specs.Arrivals.{Arrival, arrival_of, is_for_client}
+use Rattle.mdcc_runs.specs.Arrivals.{Arrival, arrival_of, is_not_taken}
 use Rattle.mdcc_runs.specs.Clients.{begun_for, known_of, with_end}
 use Rattle.mdcc_runs.specs.Runs.{NodeState, listed, step_on}
 use Rattle.mdcc_runs.specs.Sending.{address_to, datagrams_sent, facts_logged, heard_printed, message_sent, message_sent_to, messages_sent, next_head, persist_then_send, persisted}
@@ -290,7 +290,7 @@ pub received_quiet : (at : ℕ) (gave : Option (List ℕ)) → Quiet (Act.Receiv
 received_quiet at gave = record { appends = λ b. refl; plain = refl }
 
 own_message_owns : (config : Config) (site : Site) (x : Envelope) → Owns site (own_message config site x)
-own_message_owns config site x = by_kind (is_for_client x.message)
+own_message_owns config site x = by_kind (is_not_taken x.message)
   where
     by_kind : (b : Bool) → Owns site (cond b (dropped site) (input_taken config site (Input.Message x)))
     by_kind true = dropped_owns site

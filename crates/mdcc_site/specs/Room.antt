@@ -12,7 +12,7 @@ use Rattle.mdcc_site.specs.declared.fault.ServeFault.{ServeFault}
 
 module _ {D : Type 0} (disk : D → ℕ → Disk) (may_leave : D → ℕ → List ℕ → Type 0) (every : ℕ) (disks : D) where
   -- The open log of a centre, as it stands on its disks, has no room for these facts: with them the area in use, or a copy of all that is
-  -- due then, after so many frames, would pass the limit of a log.
+  -- due then, after so many frames, would pass the limit of a log, or all facts would as a file of version 1.
   pub record HasNoRoom (centre : ℕ) (more : List Fact) : Type 0 where
     pub facts : List Fact
     pub log : OpenAreas

@@ -5,7 +5,7 @@ ghost use Rattle.mdcc_messages.specs.WellFormed.{IsWellFormedMessage};
 ghost use Rattle.mdcc_node.specs.StepAnswers.{IsGiven};
 ghost use Rattle.mdcc_option.specs.declared.cluster.Cluster.{Cluster as ACluster};
 ghost use Rattle.mdcc_rules.specs.declared.node.Input.{Input as AInput};
-ghost use Rattle.mdcc_runs.specs.Arrivals.{is_for_client};
+ghost use Rattle.mdcc_runs.specs.Arrivals.{is_not_taken};
 ghost use Rattle.mdcc_runs.specs.Sites.{Site as ASite};
 ghost use Rattle.mdcc_runs.specs.Turns.{asked_message, asked_taken, own_message, own_taken};
 ghost use Rattle.mdcc_site.specs.SiteState.{Becomes, IsSite, Receives};
@@ -19,13 +19,18 @@ use mdcc_messages::{Envelope, Message};
 use mdcc_wire::empty_envelope;
 use std::alloc::Global;
 
-// Whether a message goes between a node and its client.
-fn is_for_client(message: &Message) -> bool
-    ensures { result ≡ is_for_client message.now }
+// Whether a centre takes no such message: it goes between a node and its client, or its rule is not
+// built.
+fn is_not_taken(message: &Message) -> bool
+    ensures { result ≡ is_not_taken message.now }
 {
     matches!(
         message,
-        Message::ClientRead { .. } | Message::ClientBegin { .. } | Message::ClientAnswer { .. }
+        Message::ClientRead { .. }
+            | Message::ClientBegin { .. }
+            | Message::ClientAnswer { .. }
+            | Message::Mark { .. }
+            | Message::Finished(_)
     )
 }
 
@@ -37,7 +42,7 @@ impl Site {
         ensures { (config : AConfig) (site : ASite) → IsSite config.cluster self.old site
             → Becomes config.cluster site (own_message config site envelope.now) result self.old self.new }
     {
-        if is_for_client(&envelope.message) {
+        if is_not_taken(&envelope.message) {
             self.drop_one();
             return Ok(());
         }

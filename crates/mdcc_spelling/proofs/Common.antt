@@ -1,5 +1,5 @@
 -- What messages and facts have in common: what is read is what is spelled.
-use Rattle.std.proofs.Common.{◌≡◌, ℕ, zero, suc, ◌+◌, ◌^◌, ◌<◌, ◌≤◌, Bool, true, false, cond, ltb, List, ◌++◌, length, Ok, Some, None, refl, ap, subst, arith}
+use Rattle.std.proofs.Common.{◌≡◌, ℕ, zero, suc, ◌+◌, ◌^◌, ◌<◌, ◌≤◌, Bool, true, false, cond, ltb, List, ◌++◌, length, Ok, Some, None, refl, ap, subst, arith, ◌-◌}
 use Rattle.std.specs.Int.{IsInRange}
 use Rattle.std.proofs.lemmas.Bool.{ltb-false, le-ltb}
 use Rattle.mdcc_base.specs.declared.identifiers.TxId.{TxId}
@@ -11,15 +11,15 @@ use Rattle.mdcc_option.specs.declared.choices.Cause.TheVariants.{Behind, Classic
 use Rattle.mdcc_option.specs.declared.choices.Outcome.{Outcome}
 use Rattle.mdcc_messages.specs.declared.wire.WireFault.{WireFault}
 use Rattle.mdcc_messages.specs.declared.wire.WireFault.TheVariants.{Range}
-use Rattle.mdcc_messages.specs.Bytes.{u8_bytes, u64_bytes, counted}
+use Rattle.mdcc_messages.specs.Bytes.{u8_bytes, u64_bytes, counted, u32_bytes}
 use Rattle.mdcc_messages.specs.SpelledParts.{key_bytes, tx_bytes, ballot_bytes, item_bytes, delta_bytes, outcome_bytes, cause_bytes, heard_bytes, given_bytes}
-use Rattle.mdcc_messages.specs.ReadingSteps.{◌>>=◌, u64_at, checked, u8_within, list_at}
+use Rattle.mdcc_messages.specs.ReadingSteps.{◌>>=◌, u64_at, checked, u8_within, list_at, u32_within}
 use Rattle.mdcc_messages.specs.ReadingParts.{key_at, tx_at, classic_at, item_at, delta_behind, outcome_at, classic_cause_at, limit_cause_at, cause_by, cause_at}
-use Rattle.mdcc_messages.specs.Reading.{instance_at, at_least, heard_at, given_at}
-use Rattle.mdcc_messages.specs.WellFormedParts.{IsWellFormedDelta, IsWellFormedHeard, IsWellFormedCause, IsWellFormedInstance, IsWellFormedGiven}
-use Rattle.mdcc_spelling.proofs.Places.{IsAt, IsBytes, apart-2, apart-4, end-2, end-4}
+use Rattle.mdcc_messages.specs.Reading.{instance_at, at_least, heard_at, given_at, numbers_at}
+use Rattle.mdcc_messages.specs.WellFormedParts.{IsWellFormedDelta, IsWellFormedHeard, IsWellFormedCause, IsWellFormedInstance, IsWellFormedGiven, IsWellFormedTx}
+use Rattle.mdcc_spelling.proofs.Places.{IsAt, IsBytes, apart-2, apart-4, end-2, end-4, apart-3, end-3}
 use Rattle.mdcc_spelling.proofs.Steps.{done, ok_is, bind_ok, checked_ok}
-use Rattle.mdcc_spelling.proofs.Numbers.{Reads, IsFound, u64_again, u64_takes, u8_within_again, u8_within_takes}
+use Rattle.mdcc_spelling.proofs.Numbers.{Reads, IsFound, u64_again, u64_takes, u8_within_again, u8_within_takes, u32_within_again, u32_within_takes}
 use Rattle.mdcc_spelling.proofs.Lists.{Reads-then, list_again, list_takes, follows, ascends}
 use Rattle.mdcc_spelling.proofs.Identifiers.{key_again, key_takes, tx_again, tx_takes, classic_again, classic_takes}
 use Rattle.mdcc_spelling.proofs.Items.{item_again, item_takes, delta_again, delta_takes}
@@ -67,6 +67,36 @@ instance_takes bytes at x h e =
     subst (IsFound bytes instance_spelled InstanceFits at) (ok_is {X = (List ℕ × ℕ) × ℕ} ((a0.0.0, a1.0.0), a1.0.1) x a1.2) (record {
       reads = Reads-then bytes at (key_bytes a0.0.0) a0.0.1 (u64_bytes a1.0.0) a1.0.1 (t0.reads) t1.0;
       fits = record { key_itself = t0.fits; version_fits = t1.1 };
+    })
+
+-- ---- a centre, an epoch and a number
+
+abbrev pub numbers_spelled : ℕ × ℕ × ℕ → List ℕ
+numbers_spelled numbers = u8_bytes numbers.0 ++ u32_bytes numbers.1 ++ u32_bytes numbers.2
+
+abbrev pub NumbersFit : ℕ × ℕ × ℕ → Type 0
+NumbersFit numbers = IsWellFormedTx (record { centre = numbers.0; epoch = numbers.1; seq = numbers.2 })
+
+pub numbers_again : (bytes : List ℕ) (at centre epoch seq : ℕ) → IsWellFormedTx (record { centre = centre; epoch = epoch; seq = seq }) → IsAt bytes at (u8_bytes centre ++ u32_bytes epoch ++ u32_bytes seq)
+    → numbers_at bytes at ≡ Ok ((centre, epoch, seq), at + length (u8_bytes centre ++ u32_bytes epoch ++ u32_bytes seq))
+numbers_again bytes at centre epoch seq t h =
+    let p = apart-3 bytes at (u8_bytes centre) (u32_bytes epoch) (u32_bytes seq) h in
+    let e0 = u8_within_again at 1 9 bytes at centre (omega (arith, t.centre.1)) t.centre p.0 in
+    let e1 = u32_within_again (at + 1) 1 (2 ^ 32 - 1) bytes (at + 1) epoch (omega (arith, t.epoch.1)) t.epoch p.1 in
+    let e2 = u32_within_again (at + 1 + 4) 1 (2 ^ 32 - 1) bytes (at + 1 + 4) seq (omega (arith, t.seq.1)) t.seq p.2 in
+    rw (e0, e1, e2) (ap (λ n. done ((centre, epoch, seq), n)) (end-3 at (u8_bytes centre) (u32_bytes epoch) (u32_bytes seq)))
+
+pub numbers_take : (bytes : List ℕ) (at : ℕ) (x : (ℕ × ℕ × ℕ) × ℕ) → IsBytes bytes → numbers_at bytes at ≡ Ok x → IsFound bytes numbers_spelled NumbersFit at x
+numbers_take bytes at x h e =
+    let a0 = bind_ok (u8_within at 1 9 bytes at) (λ centre. u32_within centre.1 1 (2 ^ 32 - 1) bytes centre.1 >>= λ epoch. u32_within epoch.1 1 (2 ^ 32 - 1) bytes epoch.1 >>= λ seq. done ((centre.0, epoch.0, seq.0), seq.1)) x e in
+    let a1 = bind_ok (u32_within a0.0.1 1 (2 ^ 32 - 1) bytes a0.0.1) (λ epoch. u32_within epoch.1 1 (2 ^ 32 - 1) bytes epoch.1 >>= λ seq. done ((a0.0.0, epoch.0, seq.0), seq.1)) x a0.2 in
+    let a2 = bind_ok (u32_within a1.0.1 1 (2 ^ 32 - 1) bytes a1.0.1) (λ seq. done ((a0.0.0, a1.0.0, seq.0), seq.1)) x a1.2 in
+    let t0 = u8_within_takes at 1 9 bytes at a0.0 h a0.1 in
+    let t1 = u32_within_takes a0.0.1 1 (2 ^ 32 - 1) bytes a0.0.1 a1.0 h a1.1 in
+    let t2 = u32_within_takes a1.0.1 1 (2 ^ 32 - 1) bytes a1.0.1 a2.0 h a2.1 in
+    subst (IsFound bytes numbers_spelled NumbersFit at) (ok_is {X = (ℕ × ℕ × ℕ) × ℕ} ((a0.0.0, a1.0.0, a2.0.0), a2.0.1) x a2.2) (record {
+      reads = Reads-then bytes at (u8_bytes a0.0.0 ++ u32_bytes a1.0.0) a1.0.1 (u32_bytes a2.0.0) a2.0.1 (Reads-then bytes at (u8_bytes a0.0.0) a0.0.1 (u32_bytes a1.0.0) a1.0.1 t0.0 t1.0) t2.0;
+      fits = record { centre = t0.2; epoch = t1.2; seq = t2.2 };
     })
 
 -- ---- how a transaction ended

@@ -20,7 +20,7 @@ use Rattle.mdcc_messages.specs.SpelledParts.{key_bytes, ballot_bytes, choice_byt
 use Rattle.mdcc_messages.specs.Spelling.{offered_bytes, fact_bytes}
 use Rattle.mdcc_messages.specs.ReadingSteps.{◌>>=◌, u64_at, free, same, u8_within, u32_within}
 use Rattle.mdcc_messages.specs.ReadingParts.{ballot_at, choice_checked, options_at}
-use Rattle.mdcc_messages.specs.Reading.{instance_at, heard_at, given_at, booted_at, promised_at, some_offered_at, offered_at, vote_at, heard_fact_at, adopted_at}
+use Rattle.mdcc_messages.specs.Reading.{instance_at, heard_at, given_at, booted_at, promised_at, some_offered_at, offered_at, vote_at, heard_fact_at, adopted_at, floor_at, numbers_at}
 use Rattle.mdcc_messages.specs.WellFormed.{IsWellFormedOffered, IsWellFormedFact}
 use Rattle.mdcc_spelling.proofs.Places.{IsAt, IsBytes, apart-2, apart-3, apart-4, end-2, end-3, end-4}
 use Rattle.mdcc_spelling.proofs.Steps.{done, ok_is, bind_ok}
@@ -28,7 +28,7 @@ use Rattle.mdcc_spelling.proofs.Numbers.{Reads, IsFound, u64_again, u64_takes, u
 use Rattle.mdcc_spelling.proofs.Lists.{Reads-then}
 use Rattle.mdcc_spelling.proofs.Identifiers.{ballot_again, ballot_takes}
 use Rattle.mdcc_spelling.proofs.Choices.{checked_choice_again, checked_choice_takes, same_passes, same_true, options_again, options_take}
-use Rattle.mdcc_spelling.proofs.Common.{instance_spelled, instance_again, instance_takes, heard_spelled, heard_again, heard_takes, given_spelled, given_again, given_takes}
+use Rattle.mdcc_spelling.proofs.Common.{instance_spelled, instance_again, instance_takes, heard_spelled, heard_again, heard_takes, given_spelled, given_again, given_takes, numbers_again, numbers_spelled, numbers_take}
 
 -- ---- a choice that was rejected
 
@@ -170,5 +170,21 @@ adopted_takes bytes start at h x tag e =
     let t0 = given_takes bytes at a0.0 h a0.1 in
     subst (IsFound bytes fact_bytes IsWellFormedFact start) (ok_is {X = Fact × ℕ} (facts.Adopted a0.0.0.0 a0.0.0.1 a0.0.0.2 a0.0.0.3, a0.0.1) x a0.2) (record {
       reads = Reads-then bytes start (u8_bytes 5) at (given_spelled a0.0.0) a0.0.1 tag t0.reads;
+      fits = t0.fits;
+    })
+
+pub floor_again : (bytes : List ℕ) (at centre epoch seq : ℕ) → IsWellFormedFact (facts.Floor centre epoch seq) → IsAt bytes at (u8_bytes centre ++ u32_bytes epoch ++ u32_bytes seq)
+    → floor_at bytes at ≡ Ok (facts.Floor centre epoch seq, at + length (u8_bytes centre ++ u32_bytes epoch ++ u32_bytes seq))
+floor_again bytes at centre epoch seq w h =
+    let e0 = numbers_again bytes at centre epoch seq w h in
+    rw (e0) refl
+
+pub floor_takes : (bytes : List ℕ) (start at : ℕ) → IsBytes bytes → (x : Fact × ℕ) → Reads bytes start (u8_bytes 6) at → floor_at bytes at ≡ Ok x
+    → IsFound bytes fact_bytes IsWellFormedFact start x
+floor_takes bytes start at h x tag e =
+    let a0 = bind_ok (numbers_at bytes at) (λ numbers. done (facts.Floor numbers.0.0 numbers.0.1 numbers.0.2, numbers.1)) x e in
+    let t0 = numbers_take bytes at a0.0 h a0.1 in
+    subst (IsFound bytes fact_bytes IsWellFormedFact start) (ok_is {X = Fact × ℕ} (facts.Floor a0.0.0.0 a0.0.0.1 a0.0.0.2, a0.0.1) x a0.2) (record {
+      reads = Reads-then bytes start (u8_bytes 6) at (numbers_spelled a0.0.0) a0.0.1 tag t0.reads;
       fits = t0.fits;
     })

@@ -1,8 +1,6 @@
 -- The lengths are those of the spellings.
-use Rattle.std.proofs.Common.{◌≡◌, ℕ, ◌+◌, ◌*◌, ℤ, List, [], ◌∷◌, ◌++◌, length, refl, sym, ◌∙◌, ap, arith, length-append, append-nil}
-use Rattle.std.proofs.lemmas.List.Concat.{flat_map-append}
-use mathlib.Core.List.{reverse-cons}
-use Rattle.std.specs.Prelude.{Option, Some, None, reverse}
+use Rattle.std.proofs.Common.{◌≡◌, ℕ, ◌+◌, ◌*◌, ℤ, List, [], ◌∷◌, ◌++◌, length, refl, sym, arith, length-append}
+use Rattle.std.specs.Prelude.{Option, Some, None}
 use Rattle.std.specs.List.{flat_map}
 use Rattle.mdcc_base.specs.Counts.{sum_over}
 use Rattle.mdcc_base.specs.declared.identifiers.TxId.{TxId}
@@ -28,11 +26,11 @@ use Rattle.mdcc_messages.specs.declared.messages.Message.TheVariants as messages
 use Rattle.mdcc_messages.specs.declared.facts.Fact.{Fact}
 use Rattle.mdcc_messages.specs.declared.facts.Fact.TheVariants as facts
 use Rattle.mdcc_struct.specs.Options.{Marks}
-use Rattle.mdcc_messages.specs.Bytes.{u8_bytes, u64_bytes, i64_bytes, counted}
+use Rattle.mdcc_messages.specs.Bytes.{u64_bytes, i64_bytes, counted}
 use Rattle.mdcc_messages.specs.SpelledParts.{key_bytes, tx_bytes, ballot_bytes, item_bytes, seen_bytes, amount_bytes, amounts_bytes, update_bytes, part_bytes, delta_bytes, written_bytes, write_set_bytes, choice_bytes, entry_bytes, options_bytes, outcome_bytes, cause_bytes, heard_bytes, given_bytes}
 use Rattle.mdcc_messages.specs.SpelledAnswers.{shown_item_bytes, begin_fault_bytes, flag_bytes, answer_bytes}
 use Rattle.mdcc_messages.specs.Spelling.{body_bytes, message_bytes, offered_bytes, fact_bytes}
-use Rattle.mdcc_messages.specs.Lengths.{shown_item_length, begin_fault_length, answer_length, body_length, message_length, offered_length, fact_length, frame_length, log_length, key_length, item_length, seen_length, amounts_length, update_length, part_length, delta_length, written_length, write_set_length, choice_length, entry_length, options_length, outcome_length, cause_length, heard_length, given_length}
+use Rattle.mdcc_messages.specs.Lengths.{shown_item_length, begin_fault_length, answer_length, body_length, message_length, offered_length, fact_length, key_length, item_length, seen_length, amounts_length, update_length, part_length, delta_length, written_length, write_set_length, choice_length, entry_length, options_length, outcome_length, cause_length, heard_length, given_length}
 
 -- lists joined of several
 length-three : {X : Type 0} (a b c : List X) → length (a ++ b ++ c) ≡ length a + length b + length c
@@ -186,6 +184,8 @@ length-body (messages.SyncGive key version item adds) = length-given key version
 length-body (messages.ClientRead serial key) = omega arith
 length-body (messages.ClientBegin serial parts) = omega (arith, length-each part_bytes part_length length-part parts)
 length-body (messages.ClientAnswer serial answer) = omega (arith, length-answer answer)
+length-body (messages.Mark centre epoch seq) = refl
+length-body (messages.Finished tx) = refl
 
 pub length-message : (envelope : Envelope) → message_length envelope ≡ length (message_bytes envelope)
 length-message envelope = omega (arith, length-body envelope.message)
@@ -209,6 +209,7 @@ length-fact_bytes (facts.Voted key version ballot options offered) =
     )
 length-fact_bytes (facts.Heard tx outcome) = omega (arith, length-heard tx outcome)
 length-fact_bytes (facts.Adopted key version item adds) = omega (arith, length-given key version item adds)
+length-fact_bytes (facts.Floor centre epoch seq) = refl
 
 pub length-fact : (fact : Fact) → fact_length fact ≡ length (fact_bytes fact)
 length-fact fact = sym (length-fact_bytes fact)

@@ -16,14 +16,14 @@ use Rattle.mdcc_struct.specs.Options.{Marks}
 use Rattle.mdcc_messages.specs.declared.messages.ClientAnswer.{ClientAnswer}
 use Rattle.mdcc_messages.specs.declared.messages.Message.{Message}
 use Rattle.mdcc_messages.specs.declared.messages.Message.TheVariants as messages
-use Rattle.mdcc_messages.specs.Bytes.{u32_bytes, u64_bytes, counted}
+use Rattle.mdcc_messages.specs.Bytes.{u32_bytes, u64_bytes, counted, u8_bytes}
 use Rattle.mdcc_messages.specs.SpelledParts.{key_bytes, tx_bytes, ballot_bytes, part_bytes, choice_bytes, entry_bytes, options_bytes, cause_bytes, heard_bytes, given_bytes}
 use Rattle.mdcc_messages.specs.SpelledAnswers.{answer_bytes}
 use Rattle.mdcc_messages.specs.Spelling.{kind_of, body_bytes}
 use Rattle.mdcc_messages.specs.ReadingSteps.{◌>>=◌, u32_at, u64_at, checked, list_at}
 use Rattle.mdcc_messages.specs.ReadingParts.{key_at, tx_at, ballot_at, classic_at, part_behind, choice_at, entry_at, options_at, cause_at}
 use Rattle.mdcc_messages.specs.ReadingAnswers.{answer_at}
-use Rattle.mdcc_messages.specs.Reading.{instance_at, at_least, heard_at, given_at, propose_at, voted_at, escalate_at, lead_at, prepare_at, promise_at, accept_at, refused_at, ended_at, ask_at, sync_ask_at, sync_give_at, client_read_at, client_begin_at, client_answer_at}
+use Rattle.mdcc_messages.specs.Reading.{instance_at, at_least, heard_at, given_at, propose_at, voted_at, escalate_at, lead_at, prepare_at, promise_at, accept_at, refused_at, ended_at, ask_at, sync_ask_at, sync_give_at, client_read_at, client_begin_at, client_answer_at, finished_at, mark_at, numbers_at}
 use Rattle.mdcc_messages.specs.WellFormedParts.{is_ascending_by, IsWellFormedPart}
 use Rattle.mdcc_messages.specs.WellFormed.{IsWellFormedMessage}
 use Rattle.mdcc_spelling.proofs.Places.{IsAt, IsBytes, apart-2, apart-3, apart-5, end-2, end-3, end-5}
@@ -33,7 +33,7 @@ use Rattle.mdcc_spelling.proofs.Lists.{Reads-then, list_again, list_takes, follo
 use Rattle.mdcc_spelling.proofs.Identifiers.{key_again, key_takes, tx_again, tx_takes, ballot_again, ballot_takes, classic_again, classic_takes}
 use Rattle.mdcc_spelling.proofs.Items.{part_again, part_takes}
 use Rattle.mdcc_spelling.proofs.Choices.{choice_again, choice_takes, entry_spelled, entry_behind_again, entry_behind_takes, options_again, options_take}
-use Rattle.mdcc_spelling.proofs.Common.{least_again, least_takes, instance_spelled, instance_again, instance_takes, heard_again, heard_takes, given_again, given_takes, cause_again, cause_takes}
+use Rattle.mdcc_spelling.proofs.Common.{least_again, least_takes, instance_spelled, instance_again, instance_takes, heard_again, heard_takes, given_again, given_takes, cause_again, cause_takes, numbers_again, numbers_take}
 use Rattle.mdcc_spelling.proofs.Answers.{answer_again, answer_takes}
 
 -- a well-formed message of a kind
@@ -357,4 +357,36 @@ client_answer_takes bytes at x h e =
     subst (IsFound bytes body_bytes (OfKind 15) at) (ok_is {X = Message × ℕ} (messages.ClientAnswer a0.0.0 a1.0.0, a1.0.1) x a1.2) (record {
       reads = Reads-then bytes at (u32_bytes a0.0.0) a0.0.1 (answer_bytes a1.0.0) a1.0.1 (t0.0) t1.reads;
       fits = ((t0.1, t1.fits), refl);
+    })
+
+pub mark_again : (bytes : List ℕ) (at centre epoch seq : ℕ) → IsWellFormedMessage (messages.Mark centre epoch seq) → IsAt bytes at (u8_bytes centre ++ u32_bytes epoch ++ u32_bytes seq)
+    → mark_at bytes at ≡ Ok (messages.Mark centre epoch seq, at + length (u8_bytes centre ++ u32_bytes epoch ++ u32_bytes seq))
+mark_again bytes at centre epoch seq w h =
+    let e0 = numbers_again bytes at centre epoch seq w h in
+    rw (e0) refl
+
+pub mark_takes : (bytes : List ℕ) (at : ℕ) (x : Message × ℕ) → IsBytes bytes → mark_at bytes at ≡ Ok x
+    → IsFound bytes body_bytes (OfKind 16) at x
+mark_takes bytes at x h e =
+    let a0 = bind_ok (numbers_at bytes at) (λ numbers. done (messages.Mark numbers.0.0 numbers.0.1 numbers.0.2, numbers.1)) x e in
+    let t0 = numbers_take bytes at a0.0 h a0.1 in
+    subst (IsFound bytes body_bytes (OfKind 16) at) (ok_is {X = Message × ℕ} (messages.Mark a0.0.0.0 a0.0.0.1 a0.0.0.2, a0.0.1) x a0.2) (record {
+      reads = t0.reads;
+      fits = (t0.fits, refl);
+    })
+
+pub finished_again : (bytes : List ℕ) (at : ℕ) (tx : TxId) → IsWellFormedMessage (messages.Finished tx) → IsAt bytes at (tx_bytes tx)
+    → finished_at bytes at ≡ Ok (messages.Finished tx, at + length (tx_bytes tx))
+finished_again bytes at tx w h =
+    let e0 = tx_again bytes at tx w h in
+    rw (e0) refl
+
+pub finished_takes : (bytes : List ℕ) (at : ℕ) (x : Message × ℕ) → IsBytes bytes → finished_at bytes at ≡ Ok x
+    → IsFound bytes body_bytes (OfKind 17) at x
+finished_takes bytes at x h e =
+    let a0 = bind_ok (tx_at bytes at) (λ tx. done (messages.Finished tx.0, tx.1)) x e in
+    let t0 = tx_takes bytes at a0.0 h a0.1 in
+    subst (IsFound bytes body_bytes (OfKind 17) at) (ok_is {X = Message × ℕ} (messages.Finished a0.0.0, a0.0.1) x a0.2) (record {
+      reads = t0.reads;
+      fits = (t0.fits, refl);
     })

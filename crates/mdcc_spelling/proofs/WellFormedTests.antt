@@ -309,6 +309,8 @@ well_formed_message (messages.ClientBegin serial parts) h = well_formed_begin se
 well_formed_message (messages.ClientAnswer serial answer) h =
     let p : (is_u32 serial ≡ true) × (is_well_formed_answer answer ≡ true) = and_parts (is_u32 serial) (is_well_formed_answer answer) h in
     (ltb-true serial (2 ^ 32) p.0, well_formed_answer answer p.1)
+well_formed_message (messages.Mark centre epoch seq) h = well_formed_tx (record { centre = centre; epoch = epoch; seq = seq }) h
+well_formed_message (messages.Finished tx) h = well_formed_tx tx h
 
 well_formed_endpoint : (n : ℕ) → is_endpoint n ≡ true → IsEndpoint n
 well_formed_endpoint n h =
@@ -349,3 +351,4 @@ well_formed_fact (facts.Promised key low high ballot) h = well_formed_promised k
 well_formed_fact (facts.Voted key version ballot options offered) h = well_formed_vote key version ballot options offered h
 well_formed_fact (facts.Heard tx outcome) h = well_formed_heard tx outcome h
 well_formed_fact (facts.Adopted key version item adds) h = well_formed_given key version item adds h
+well_formed_fact (facts.Floor centre epoch seq) h = well_formed_tx (record { centre = centre; epoch = epoch; seq = seq }) h

@@ -1,6 +1,6 @@
 -- Facts that are heard, adopted, promised or voted for a leader: each is allowed.
 use Rattle.std.proofs.Common.{◌≡◌, ℕ, ◌==◌, ◌||◌, ◌&&◌, ◌≤◌, Bool, true, false, List, [], ◌∷◌, length, refl, ap, inl, inr, Option, Some, None, nat_lt, nat_le, not, is_some, filter, arith}
-use Rattle.std.proofs.lemmas.Bool.{and_from, cases_Bool, eq-eqb, le-leb, ltb-false, lt-ltb, not_from_false, or_left, or_right}
+use Rattle.std.proofs.lemmas.Bool.{and_from, cases_Bool, eq-eqb, le-leb, ltb-false, lt-ltb, not_from_false, or_left, or_right, or_parts}
 use Rattle.std.proofs.lemmas.Bool.Decides.{nat_tests}
 use Rattle.mdcc_base.specs.Ballot.{ballot_lt, is_fast}
 use Rattle.mdcc_base.specs.declared.identifiers.Ballot.{Ballot}
@@ -18,7 +18,7 @@ use Rattle.mdcc_rules.specs.AcceptorRules.{accept_step, accepted_step, prepare_s
 use Rattle.mdcc_ledger.specs.AllowedFacts.{are_apart}
 use Rattle.mdcc_ledger.specs.BootTest.{is_allowed_classic_vote, is_allowed_fact, is_allowed_promise}
 use Rattle.mdcc_protocol.specs.Belongs.{adds_belong, ballot_belongs, item_belongs, mark_belongs, options_belong, outcome_belongs, tx_belongs}
-use Rattle.mdcc_protocol.specs.Facts.{current_of, epoch_of, is_heard, promise_of, promised_through, votes_of}
+use Rattle.mdcc_protocol.specs.Facts.{current_of, epoch_of, is_heard, promise_of, promised_through, votes_of, is_finished, is_settled}
 use Rattle.mdcc_protocol.specs.News.{is_crowding, is_news}
 use Rattle.mdcc_rules.specs.SyncRules.{outcome_step, sync_give_step}
 use Rattle.mdcc_protocol.specs.Volatile.{Volatile}
@@ -35,16 +35,18 @@ classic-not_fast ballot h = let some : 1 ≤ ballot.round = h.round.0 in grind (
 -- ---- outcomes
 
 pub heard-allowed : (cluster : Cluster) (facts : List Fact) (tx : TxId) (outcome : Outcome) → nat_lt 0 (epoch_of facts) ≡ true
-    → tx_belongs cluster tx ≡ true → outcome_belongs cluster outcome ≡ true → is_heard facts tx ≡ false
+    → tx_belongs cluster tx ≡ true → outcome_belongs cluster outcome ≡ true → is_settled facts tx ≡ false
     → IsAllowedIf cluster facts (Some (Fact.Heard tx outcome))
-heard-allowed cluster facts tx outcome booted of_tx of_outcome unheard room =
-    and_from _ _ (and_from _ _ (and_from _ _ of_tx of_outcome) booted) (and_from _ _ (not_from_false (is_heard facts tx) unheard) (not_from_false (is_crowding facts (Fact.Heard tx outcome)) room))
+heard-allowed cluster facts tx outcome booted of_tx of_outcome unsettled room =
+    let neither = or_parts (is_heard facts tx) (is_finished facts tx) unsettled in
+    and_from _ _ (and_from _ _ (and_from _ _ of_tx of_outcome) booted)
+    (and_from _ _ (and_from _ _ (not_from_false (is_heard facts tx) neither.0) (not_from_false (is_finished facts tx) neither.1)) (not_from_false (is_crowding facts (Fact.Heard tx outcome)) room))
 
 pub outcome-allowed : (cluster : Cluster) (facts : List Fact) (volatile : Volatile) (tx : TxId) (outcome : Outcome) → nat_lt 0 (epoch_of facts) ≡ true
     → tx_belongs cluster tx ≡ true → outcome_belongs cluster outcome ≡ true
     → IsAllowedIf cluster facts (outcome_step facts volatile tx outcome).fact
 outcome-allowed cluster facts volatile tx outcome booted of_tx of_outcome =
-    elim (cases_Bool (is_heard facts tx)) [
+    elim (cases_Bool (is_settled facts tx)) [
       | inl e ↦ rw e tt
       | inr e ↦ rw e (heard-allowed cluster facts tx outcome booted of_tx of_outcome e)
     ]
@@ -107,7 +109,7 @@ module _ (cluster : Cluster) (me : ℕ) (facts : List Fact) (volatile : Volatile
     (booted : nat_lt 0 (epoch_of facts) ≡ true) (classic : is_fast ballot ≡ false)
     (of_ballot : ballot_belongs cluster ballot ≡ true) (of_options : options_belong cluster options ≡ true) (ascending : are_ascending options ≡ true) where
   abbrev is_new : TxId × Mark → Bool
-  is_new e = not (is_some (value_of (votes_of facts key version ballot) e.0))
+  is_new e = not (is_some (value_of (votes_of facts key version ballot) e.0) || is_finished facts e.0)
 
   marks-allowed : (e : TxId × Mark) (es : Options) → new_marks facts key version ballot options ≡ e ∷ es
       → ballot_lt ballot (promise_of facts key version) ≡ false → nat_lt (current_of facts key) version ≡ false

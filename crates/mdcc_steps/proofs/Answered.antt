@@ -155,6 +155,7 @@ answered-step cluster me facts volatile (Input.Message envelope) of_me known w =
     (λ e. on_checked IsQuiet IsAnswered cluster facts (message_step (here cluster me facts) volatile envelope.from envelope.message) (λ step h room. quiet-answered step.answer h)
     (quiet-message cluster me facts volatile envelope.from envelope.message)) (λ e. tt)
 answered-step cluster me facts volatile Input.Tick of_me known w = tt
+answered-step cluster me facts volatile Input.Sweep of_me known w = tt
 answered-step cluster me facts volatile (Input.Read key) of_me known w =
     (token-formed cluster facts key known, shown-formed (executed_of facts key) (base_of facts key) (base-formed (base_of facts key) (base-told facts key known.well_formed)))
   where

@@ -10,13 +10,14 @@ use Rattle.mdcc_protocol.specs.Belongs.{fact_belongs, is_centre}
 use Rattle.mdcc_rules.specs.Boot.{boot_of, booted_by, is_past_cells, loaded_from, room_fault}
 use Rattle.mdcc_protocol.specs.Facts.{epoch_of}
 use Rattle.mdcc_protocol.specs.IsCluster.{IsCluster}
-use Rattle.mdcc_messages.specs.Lengths.{cells_needed, cells_used}
+use Rattle.mdcc_messages.specs.Lengths.{cells_needed}
 use Rattle.mdcc_protocol.specs.Volatile.{initial_volatile}
 use Rattle.mdcc_messages.specs.WellFormed.{IsWellFormedFact}
 use Rattle.mdcc_messages.specs.declared.facts.Fact.{Fact}
 use Rattle.mdcc_rules.specs.declared.node.BootFault.{BootFault}
-use Rattle.mdcc_steps.specs.NodeInvariant.{IsNode, payloads_of}
+use Rattle.mdcc_steps.specs.NodeInvariant.{IsNode, payloads_of, FitInTurn}
 use Rattle.mdcc_steps.specs.WellFormedVolatile.{AreNodeFacts}
+use Rattle.mdcc_protocol.specs.Cells.{cells_held}
 
 -- a result behind two tests
 two_tests : {X Y : Type 0} (a b : Bool) (x y : Y) (m : Result X Y) (r : X) → cond a (Err x) (cond b (Err y) m) ≡ Ok r → (a ≡ false) × (b ≡ false) × (m ≡ Ok r)
@@ -53,6 +54,7 @@ kind-epoch cluster facts (Fact.Booted epoch) h ih =
 kind-epoch cluster facts (Fact.Promised key low high ballot) h ih = omega arith
 kind-epoch cluster facts (Fact.Voted key version ballot options offered) h ih = omega arith
 kind-epoch cluster facts (Fact.Heard tx outcome) h ih = omega arith
+kind-epoch cluster facts (Fact.Floor origin era upto) h ih = omega arith
 kind-epoch cluster facts (Fact.Adopted key version item adds) h ih = omega arith
 
 epochs-counted : (cluster : Cluster) (facts : List Fact) → are_allowed_facts cluster facts ≡ true → epoch_of facts ≡ number_of is_booted facts
@@ -108,42 +110,41 @@ loaded-more cluster start mid n (Some first ∷ payloads) fact e allowed room =
       ]
     ]
 
-pub fits-cells : (cluster : Cluster) (facts : List Fact) (fact : Fact) → cells_used (fact ∷ facts) ≤ cluster.cells → is_past_cells cluster facts fact ≡ false
-fits-cells cluster facts fact room =
-    le-ltb cluster.cells (cells_used facts + cells_needed fact) (omega (arith, room))
+pub fits-cells : (cluster : Cluster) (facts : List Fact) (fact : Fact) → cells_held facts + cells_needed fact ≤ cluster.cells → is_past_cells cluster facts fact ≡ false
+fits-cells cluster facts fact room = le-ltb cluster.cells (cells_held facts + cells_needed fact) room
 
-loaded-again : (cluster : Cluster) (facts : List Fact) → are_allowed_facts cluster facts ≡ true → cells_used facts ≤ cluster.cells
+loaded-again : (cluster : Cluster) (facts : List Fact) → are_allowed_facts cluster facts ≡ true → FitInTurn cluster facts
     → loaded_from cluster [] 0 (payloads_of facts) ≡ Ok facts
 loaded-again cluster [] h room = refl
 loaded-again cluster (fact ∷ facts) h room =
     let both = and_parts (are_allowed_facts cluster facts) (is_allowed_fact cluster facts fact) h in
-    loaded-more cluster [] facts 0 (payloads_of facts) fact (loaded-again cluster facts both.0 (less (cells_needed fact) (cells_used facts) cluster.cells room)) both.1
-    (fits-cells cluster facts fact room)
-  where
-    less : (a b c : ℕ) → a + b ≤ c → b ≤ c
-    less a b c h = omega arith
+    loaded-more cluster [] facts 0 (payloads_of facts) fact (loaded-again cluster facts both.0 room.0) both.1
+    (fits-cells cluster facts fact room.1)
 
-pub boot-reads : (cluster : Cluster) (facts : List Fact) → are_allowed_facts cluster facts ≡ true → cells_used facts ≤ cluster.cells
+pub boot-reads : (cluster : Cluster) (facts : List Fact) → are_allowed_facts cluster facts ≡ true → FitInTurn cluster facts
     → boot_of cluster (payloads_of facts) ≡ booted_by cluster (Ok facts)
 boot-reads cluster facts h room = ap (booted_by cluster) (loaded-again cluster facts h room)
 
 -- ---- a boot keeps within the cells
 
-within-cells : (cluster : Cluster) (facts : List Fact) (fact : Fact) → is_past_cells cluster facts fact ≡ false → cells_used (fact ∷ facts) ≤ cluster.cells
-within-cells cluster facts fact h =
-    let within = ltb-false cluster.cells (cells_used facts + cells_needed fact) h in turned (cells_needed fact) (cells_used facts) cluster.cells within
-  where
-    turned : (a b c : ℕ) → b + a ≤ c → a + b ≤ c
-    turned a b c h = omega arith
+within-cells : (cluster : Cluster) (facts : List Fact) (fact : Fact) → is_past_cells cluster facts fact ≡ false → cells_held facts + cells_needed fact ≤ cluster.cells
+within-cells cluster facts fact h = ltb-false cluster.cells (cells_held facts + cells_needed fact) h
+
+loaded-room : (cluster : Cluster) (facts : List Fact) (n : ℕ) (payloads : List (Option Fact)) (result : List Fact) → FitInTurn cluster facts → loaded_from cluster facts n payloads ≡ Ok result → FitInTurn cluster result
+loaded-room cluster facts n [] result h e = let same : facts ≡ result = cc in subst (FitInTurn cluster) same h
+loaded-room cluster facts n (None ∷ payloads) result h e = absurd (cc)
+loaded-room cluster facts n (Some fact ∷ payloads) result h e =
+    let passed = two_tests (not (is_allowed_fact cluster facts fact)) (is_past_cells cluster facts fact) _ _ (loaded_from cluster (fact ∷ facts) (n + 1) payloads) result e in
+    loaded-room cluster (fact ∷ facts) (n + 1) payloads result (h, within-cells cluster facts fact passed.1) passed.2
 
 pub boot-room : (cluster : Cluster) (payloads : List (Option Fact)) (facts : List Fact) → boot_of cluster payloads ≡ Ok facts
-    → cells_used facts ≤ cluster.cells
-boot-room cluster payloads facts e = by_loaded (loaded_from cluster [] 0 payloads) e
+    → FitInTurn cluster facts
+boot-room cluster payloads facts e = by_loaded (loaded_from cluster [] 0 payloads) refl e
   where
-    by_loaded : (r : Result (List Fact) BootFault) → booted_by cluster r ≡ Ok facts → cells_used facts ≤ cluster.cells
-    by_loaded (Err fault) g = absurd (cc)
-    by_loaded (Ok loaded) g =
+    by_loaded : (r : Result (List Fact) BootFault) → loaded_from cluster [] 0 payloads ≡ r → booted_by cluster r ≡ Ok facts → FitInTurn cluster facts
+    by_loaded (Err fault) f g = absurd (cc)
+    by_loaded (Ok loaded) f g =
         let fact : Fact = Fact.Booted (epoch_of loaded + 1) in
         let passed = two_tests (nat_le (2 ^ 32 - 1) (epoch_of loaded)) (is_past_cells cluster loaded fact) BootFault.Epochs (room_fault cluster loaded fact) (Ok (fact ∷ loaded)) facts g in
         let same : fact ∷ loaded ≡ facts = ok-same {Y = BootFault} (Ok (fact ∷ loaded)) (fact ∷ loaded) facts refl passed.2 in
-        subst (λ (fs : List Fact). cells_used fs ≤ cluster.cells) same (within-cells cluster loaded fact passed.1)
+        subst (FitInTurn cluster) same (loaded-room cluster [] 0 payloads loaded tt f, within-cells cluster loaded fact passed.1)

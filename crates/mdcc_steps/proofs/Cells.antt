@@ -31,6 +31,7 @@ marks-few key version ballot (Fact.Voted key' version' ballot' options offered) 
     cond_both (version' == version && ballot_eq ballot' ballot && key_eq key' key) options [] (λ (m : Options). length m ≤ fact_length (Fact.Voted key' version' ballot' options offered))
     (λ e. let long = options-long options in omega arith) (λ e. omega arith)
 marks-few key version ballot (Fact.Booted epoch) = omega arith
+marks-few key version ballot (Fact.Floor origin era upto) = omega arith
 marks-few key version ballot (Fact.Promised key' low high ballot') = omega arith
 marks-few key version ballot (Fact.Heard tx outcome) = omega arith
 marks-few key version ballot (Fact.Adopted key' version' item adds) = omega arith

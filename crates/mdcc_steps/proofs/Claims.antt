@@ -13,7 +13,7 @@ use Rattle.mdcc_option.specs.declared.choices.Choice.{Choice}
 use Rattle.mdcc_option.specs.declared.choices.Claim.{Claim}
 use Rattle.mdcc_option.specs.declared.choices.Mark.{Mark}
 use Rattle.mdcc_struct.specs.Maps.{value_of}
-use Rattle.mdcc_protocol.specs.Facts.{choice_known, choice_of_tx, choice_voted}
+use Rattle.mdcc_protocol.specs.Facts.{choice_known, choice_of_tx, choice_voted, first_choice, is_forgotten}
 use Rattle.mdcc_protocol.specs.Leader.{claim_of_choice}
 use Rattle.mdcc_protocol.specs.Learner.{votes_on}
 use Rattle.mdcc_protocol.specs.Marks.{choice_in}
@@ -62,14 +62,19 @@ choice-here key version tx (Fact.Voted key' version' ballot options offered) w =
     (value-in (IsWellFormedEntry key version) options tx (entries-of key key' version version' options e w.options_itself.each)))
     (offered-choice key key' version version' tx offered ((Decides-key key' key).0 parts.1) (eqb-true version' version parts.0) w.offered_itself)) (λ e. tt)
 choice-here key version tx (Fact.Booted epoch) w = tt
+choice-here key version tx (Fact.Floor origin era upto) w = tt
 choice-here key version tx (Fact.Promised key' low high ballot) w = tt
 choice-here key version tx (Fact.Heard other outcome) w = tt
 choice-here key version tx (Fact.Adopted key' version' item adds) w = tt
 
+first-known : (facts : List Fact) (key : Key) (version : ℕ) (tx : TxId) → AllByRecursion IsWellFormedFact facts → HoldsIn (IsWellFormedWithin key version tx) (first_choice facts key version tx)
+first-known [] key version tx w = tt
+first-known (fact ∷ facts) key version tx w =
+    holds-or (IsWellFormedWithin key version tx) (first_choice facts key version tx) (choice_voted key version tx fact) (first-known facts key version tx w.1) (choice-here key version tx fact w.0)
+
 known-choice : (facts : List Fact) (key : Key) (version : ℕ) (tx : TxId) → AllByRecursion IsWellFormedFact facts → HoldsIn (IsWellFormedWithin key version tx) (choice_known facts key version tx)
-known-choice [] key version tx w = tt
-known-choice (fact ∷ facts) key version tx w =
-    holds-or (IsWellFormedWithin key version tx) (choice_known facts key version tx) (choice_voted key version tx fact) (known-choice facts key version tx w.1) (choice-here key version tx fact w.0)
+known-choice facts key version tx w =
+    cond_both (is_forgotten facts key version tx) None (first_choice facts key version tx) (HoldsIn (IsWellFormedWithin key version tx)) (λ e. tt) (λ e. first-known facts key version tx w)
 
 -- ---- choices that counted votes have
 

@@ -17,11 +17,11 @@ use Rattle.mdcc_option.specs.declared.faults.BeginFault.{BeginFault}
 use Rattle.mdcc_option.specs.declared.items.Part.{Part}
 use Rattle.mdcc_struct.specs.declared.options.Options.{Options}
 use Rattle.mdcc_protocol.specs.Acceptor.{on_accept, on_prepare, on_propose}
-use Rattle.mdcc_rules.specs.AcceptorRules.{accepted_step, ask_step_by, prepared_step, proposed_step}
+use Rattle.mdcc_rules.specs.AcceptorRules.{accepted_step, ask_step_by, prepared_step, proposed_step, ask_step_after}
 use Rattle.mdcc_protocol.specs.Belongs.{message_belongs}
-use Rattle.mdcc_protocol.specs.Facts.{epoch_of, heard_of, is_heard, vote_of}
+use Rattle.mdcc_protocol.specs.Facts.{epoch_of, vote_of, is_finished, is_settled, outcome_kept}
 use Rattle.mdcc_protocol.specs.Leader.{claim_of_choice, lead, on_promise}
-use Rattle.mdcc_rules.specs.LeaderRules.{lead_step_after, led_by_answer, promised_by_answer, step_of_led}
+use Rattle.mdcc_rules.specs.LeaderRules.{lead_step_after, led_by_answer, promised_by_answer, step_of_led, led_of}
 use Rattle.mdcc_protocol.specs.Learner.{is_learned, with_vote}
 use Rattle.mdcc_protocol.specs.Manager
 use Rattle.mdcc_protocol.specs.Manager.{act_on_cause, act_on_vote, acted, after_act, begin_with, begin_fault, vote_taken}
@@ -29,7 +29,7 @@ use Rattle.mdcc_rules.specs.ManagerRules.{acted_step, begin_step_by, escalate_st
 use Rattle.mdcc_rules.specs.Node.{checked, is_own_message, message_step, step_of}
 use Rattle.mdcc_protocol.specs.Recover
 use Rattle.mdcc_protocol.specs.Recover.{keys_watched, on_voted_by}
-use Rattle.mdcc_rules.specs.Steps.{NodeStep, StepPart, and_then, nothing_done, only_sending}
+use Rattle.mdcc_rules.specs.Steps.{NodeStep, StepPart, and_then, nothing_done, only_sending, sending}
 use Rattle.mdcc_rules.specs.SyncRules.{outcome_step_by, sync_give_step_by}
 use Rattle.mdcc_rules.specs.TickRules.{claim_led, led_or_left, manager_act, manager_ticked, recovery_act, recovery_ticked, tick_step}
 use Rattle.mdcc_protocol.specs.Visible.{on_outcome, on_sync_give}
@@ -51,6 +51,7 @@ use Rattle.mdcc_steps.proofs.Allowing.{OnStep, on_checked}
 use Rattle.mdcc_steps.proofs.Decided.{each-with_vote}
 use Rattle.mdcc_steps.proofs.Each.{each-kept}
 use Rattle.mdcc_rules.specs.Here.{here}
+use Rattle.mdcc_rules.specs.Messages.{to_one}
 
 -- the state after one thing and another
 pub after-fold : {X : Type 0} (P : Volatile → Type 0) (act : Volatile → X → StepPart) (each : (v : Volatile) (x : X) → P v → P (act v x).after)
@@ -90,6 +91,7 @@ module _ (P : Vote → Type 0) where
   module _ (cluster : Cluster) (me : ℕ) (facts : List Fact) (volatile : Volatile) (all : AreAll volatile) where
     votes-proposed : (s : ℕ) (choice : Choice) (answer : ProposeAnswer) → AreAllAfter (proposed_step me volatile s choice answer)
     votes-proposed s choice (ProposeAnswer.Known outcome) = all
+    votes-proposed s choice ProposeAnswer.Finished = all
     votes-proposed s choice (ProposeAnswer.Again ballot mark) = all
     votes-proposed s choice (ProposeAnswer.Vote mark) = all
     votes-proposed s choice (ProposeAnswer.Escalate cause) = all
@@ -114,7 +116,7 @@ module _ (P : Vote → Type 0) where
 
     votes-voted : (vote : Vote) → P vote → AreAllAfter (voted_step (here cluster me facts) volatile vote)
     votes-voted vote k =
-        cond_both (is_heard facts vote.tx) (nothing_done volatile) _ AreAllAfter (λ e. all) (λ e.
+        cond_both (is_settled facts vote.tx) (nothing_done volatile) _ AreAllAfter (λ e. all) (λ e.
         cond_both (is_open volatile.manager vote.tx)
         (opened_step (here cluster me facts) volatile vote (Manager.would_decide cluster.quorums volatile.manager vote))
         (watched_step (here cluster me facts) volatile vote (Recover.would_decide cluster.quorums facts volatile.recovery vote))
@@ -143,7 +145,9 @@ module _ (P : Vote → Type 0) where
 
     votes-lead : (s : ℕ) (choice : Choice) (o : Option Outcome) → OnStep AreAllAfter (lead_step_after (here cluster me facts) volatile s choice o)
     votes-lead s choice (Some outcome) = all
-    votes-lead s choice None = votes-led (claim_of_choice choice) (lead cluster me (epoch_of facts) facts volatile.leader (claim_of_choice choice))
+    votes-lead s choice None =
+        cond_both (is_finished facts choice.tx) (Ok (sending volatile (to_one me s (Message.Finished choice.tx)))) (step_of_led (led_of (here cluster me facts) volatile (claim_of_choice choice))) (OnStep AreAllAfter)
+        (λ e. all) (λ e. votes-led (claim_of_choice choice) (lead cluster me (epoch_of facts) facts volatile.leader (claim_of_choice choice)))
 
     votes-prepared : (l : ℕ) (key : Key) (version : ℕ) (ballot : Ballot) (answer : PrepareAnswer) → AreAllAfter (prepared_step me facts volatile l key version ballot answer)
     votes-prepared l key version ballot (PrepareAnswer.Refused promise) = all
@@ -157,10 +161,14 @@ module _ (P : Vote → Type 0) where
     votes-accepted l key version ballot options AcceptAnswer.Older = all
     votes-accepted l key version ballot options AcceptAnswer.Vote = all
 
-    votes-asked : (s : ℕ) (tx : TxId) (key : Key) (version : ℕ) (o : Option Outcome) (vote : Option (Ballot × Mark)) → AreAllAfter (ask_step_by me volatile s tx key version o vote)
-    votes-asked s tx key version (Some outcome) vote = all
-    votes-asked s tx key version None (Some vote) = all
-    votes-asked s tx key version None None = all
+    votes-asked : (s : ℕ) (tx : TxId) (key : Key) (version : ℕ) (o : Option Outcome) → AreAllAfter (ask_step_by me facts volatile s tx key version o)
+    votes-asked s tx key version (Some outcome) = all
+    votes-asked s tx key version None =
+        cond_both (is_finished facts tx) (sending volatile (to_one me s (Message.Finished tx))) (ask_step_after me volatile s tx key version (vote_of facts key version tx)) AreAllAfter (λ e. all) (λ e. by_vote (vote_of facts key version tx))
+      where
+        by_vote : (vote : Option (Ballot × Mark)) → AreAllAfter (ask_step_after me volatile s tx key version vote)
+        by_vote (Some vote) = all
+        by_vote None = all
 
     votes-given : (o : Option Fact) → AreAllAfter (sync_give_step_by volatile o)
     votes-given None = all
@@ -171,17 +179,19 @@ module _ (P : Vote → Type 0) where
     votes-message s (Message.Voted key version ballot tx mark) k =
         votes-voted (record { from = s; key = key; version = version; ballot = ballot; tx = tx; mark = mark }) k
     votes-message s (Message.Escalate key version tx cause) k = votes-escalate s key tx cause
-    votes-message s (Message.Lead choice) k = votes-lead s choice (heard_of facts choice.tx)
+    votes-message s (Message.Lead choice) k = votes-lead s choice (outcome_kept facts choice.tx)
     votes-message s (Message.Prepare key version through ballot) k = votes-prepared s key version ballot (on_prepare facts key version through ballot)
     votes-message s (Message.Promise key version through ballot reported votes) k =
         votes-promised key (on_promise cluster facts volatile.leader s (record { key = key; version = version; through = through; ballot = ballot; reported = reported; votes = votes }))
     votes-message s (Message.Accept key version ballot options) k = votes-accepted s key version ballot options (on_accept facts key version ballot options)
     votes-message s (Message.Refused key version ballot promised) k = all
     votes-message s (Message.Outcome tx outcome) k = votes-outcome tx (on_outcome facts tx outcome)
-    votes-message s (Message.Ask tx key version) k = votes-asked s tx key version (heard_of facts tx) (vote_of facts key version tx)
+    votes-message s (Message.Ask tx key version) k = votes-asked s tx key version (outcome_kept facts tx)
     votes-message s (Message.SyncAsk key) k = all
     votes-message s (Message.SyncGive key version item adds) k =
         votes-given (on_sync_give facts (record { key = key; version = version; item = item; adds = adds }))
+    votes-message s (Message.Mark centre epoch seq) k = all
+    votes-message s (Message.Finished tx) k = votes-closed volatile tx all
     votes-message s (Message.ClientRead serial key) k = all
     votes-message s (Message.ClientBegin serial parts) k = all
     votes-message s (Message.ClientAnswer serial answer) k = all
@@ -240,5 +250,6 @@ module _ (P : Vote → Type 0) where
         (votes-message cluster me facts volatile h envelope.from envelope.message (own (and_parts _ _ e).1)))
         (λ e. tt)
     votes-step volatile h Input.Tick own = votes-tick volatile h
+    votes-step volatile h Input.Sweep own = h
     votes-step volatile h (Input.Read key) own = h
     votes-step volatile h (Input.Begin parts) own = votes-begin cluster me facts volatile h parts (begin_fault facts volatile.manager parts)

@@ -14,22 +14,22 @@ use Rattle.mdcc_option.specs.declared.choices.Outcome.{Outcome}
 use Rattle.mdcc_option.specs.declared.cluster.Cluster.{Cluster}
 use Rattle.mdcc_option.specs.declared.items.Part.{Part}
 use Rattle.mdcc_protocol.specs.Acceptor.{on_propose}
-use Rattle.mdcc_rules.specs.AcceptorRules.{ask_step, ask_step_by, proposed_step}
+use Rattle.mdcc_rules.specs.AcceptorRules.{ask_step, ask_step_by, proposed_step, ask_step_after}
 use Rattle.mdcc_ledger.specs.BootTest.{are_allowed_facts, is_allowed_fact}
 use Rattle.mdcc_protocol.specs.Belongs.{is_centre, message_belongs}
-use Rattle.mdcc_protocol.specs.Facts.{heard_of, is_heard, vote_of}
+use Rattle.mdcc_protocol.specs.Facts.{vote_of, is_finished, is_settled, outcome_kept}
 use Rattle.mdcc_base.specs.Counts.{sum_over}
 use Rattle.mdcc_messages.specs.Lengths.{fact_length}
 use Rattle.mdcc_protocol.specs.Manager.{begin_fault}
 use Rattle.mdcc_rules.specs.ManagerRules.{begin_step}
 use Rattle.mdcc_protocol.specs.News.{is_news}
 use Rattle.mdcc_rules.specs.Node.{checked, is_own_message, message_step, step_of}
-use Rattle.mdcc_rules.specs.Steps.{NodeStep, nothing_done, with_new}
+use Rattle.mdcc_rules.specs.Steps.{NodeStep, nothing_done, with_new, sending}
 use Rattle.mdcc_rules.specs.SyncRules.{outcome_step, outcome_step_by, sync_give_step, sync_give_step_by}
 use Rattle.mdcc_rules.specs.TickRules.{tick_step}
 use Rattle.mdcc_protocol.specs.Volatile.{Volatile}
 use Rattle.mdcc_messages.specs.WellFormed.{IsWellFormedEnvelope, IsWellFormedFact, IsWellFormedMessage}
-use Rattle.mdcc_messages.specs.WellFormedParts.{IsWellFormedChoice, IsWellFormedGiven, IsWellFormedHeard, IsWellFormedInstance}
+use Rattle.mdcc_messages.specs.WellFormedParts.{IsWellFormedChoice, IsWellFormedGiven, IsWellFormedHeard, IsWellFormedInstance, IsWellFormedTx}
 use Rattle.mdcc_protocol.specs.declared.acceptor.ProposeAnswer.{ProposeAnswer}
 use Rattle.mdcc_messages.specs.declared.facts.Fact.{Fact}
 use Rattle.mdcc_protocol.specs.declared.leader.Promise.{Promise}
@@ -52,8 +52,9 @@ use Rattle.mdcc_steps.proofs.Proposed.{IsFormedAnswer, formed-answer, proposed-f
 use Rattle.mdcc_steps.proofs.Sending.{HasRoomIn, IsGoodSent, centre-range, sent-give, sent-one}
 use Rattle.mdcc_steps.proofs.Stepping.{booted-more, made-allowed, on_made, some_epoch, votes-stay}
 use Rattle.mdcc_steps.proofs.Ticked.{formed-tick}
-use Rattle.mdcc_steps.proofs.Told.{IsWellFormedVoteAt, heard-told, vote-told}
+use Rattle.mdcc_steps.proofs.Told.{IsWellFormedVoteAt, vote-told, kept-told}
 use Rattle.mdcc_rules.specs.Here.{here}
+use Rattle.mdcc_rules.specs.Messages.{to_one}
 
 -- a choice and the answer to its proposal
 abbrev IsFormedMessageOf : Choice → ProposeAnswer → Type 0
@@ -61,6 +62,7 @@ IsFormedMessageOf choice answer = IsWellFormedChoice choice × IsFormedAnswer ch
 
 proposed-kept : (P : Volatile → Type 0) (me : ℕ) (volatile : Volatile) (s : ℕ) (choice : Choice) (answer : ProposeAnswer) → P volatile → P (proposed_step me volatile s choice answer).after
 proposed-kept P me volatile s choice (ProposeAnswer.Known outcome) h = h
+proposed-kept P me volatile s choice ProposeAnswer.Finished h = h
 proposed-kept P me volatile s choice (ProposeAnswer.Again ballot mark) h = h
 proposed-kept P me volatile s choice (ProposeAnswer.Escalate cause) h = h
 proposed-kept P me volatile s choice (ProposeAnswer.Vote mark) h = h
@@ -92,7 +94,7 @@ module _ (cluster : Cluster) (me : ℕ) (facts : List Fact) (volatile : Volatile
 
   formed-outcome : (tx : TxId) (outcome : Outcome) → IsWellFormedHeard tx outcome → IsFormed (outcome_step facts volatile tx outcome)
   formed-outcome tx outcome w =
-      cond_both (is_heard facts tx) None (Some (Fact.Heard tx outcome)) (λ (o : Option Fact). IsFormed (outcome_step_by volatile tx o)) (λ e. nothing)
+      cond_both (is_settled facts tx) None (Some (Fact.Heard tx outcome)) (λ (o : Option Fact). IsFormed (outcome_step_by volatile tx o)) (λ e. nothing)
       (λ e. (w, tt, each-kept IsWellFormedOpen (λ t. not (tx_eq t.tx tx)) volatile.manager.opened kept.opened, kept.leads))
 
   formed-give : (give : Give) → IsWellFormedGiven give.key give.version give.item give.adds → IsFormed (sync_give_step facts volatile give)
@@ -100,16 +102,21 @@ module _ (cluster : Cluster) (me : ℕ) (facts : List Fact) (volatile : Volatile
       cond_both (is_news facts give.key give.version give.adds) (Some (Fact.Adopted give.key give.version give.item give.adds)) None (λ (o : Option Fact). IsFormed (sync_give_step_by volatile o))
       (λ e. (w, tt, kept.opened, kept.leads)) (λ e. nothing)
 
-  formed-ask : (s : ℕ) (tx : TxId) (key : Key) (version : ℕ) → IsInRange 1 9 s → IsWellFormedInstance key version → IsFormed (ask_step me facts volatile s tx key version)
-  formed-ask s tx key version h w =
-      by_answer (heard_of facts tx) (heard-told facts tx known.well_formed) (vote_of facts key version tx) (vote-told facts key version tx known.well_formed)
+  formed-ask : (s : ℕ) (tx : TxId) (key : Key) (version : ℕ) → IsInRange 1 9 s → IsWellFormedTx tx → IsWellFormedInstance key version → IsFormed (ask_step me facts volatile s tx key version)
+  formed-ask s tx key version h t w =
+      by_answer (outcome_kept facts tx) (kept-told facts tx known.well_formed)
     where
-      by_answer : (o : Option Outcome) → HoldsIn (IsWellFormedHeard tx) o → (vote : Option (Ballot × Mark)) → HoldsIn (IsWellFormedVoteAt key version tx) vote
-          → IsFormed (ask_step_by me volatile s tx key version o vote)
-      by_answer (Some outcome) a vote b = (tt, sent-one me s (Message.Outcome tx outcome) tt of_me h a, kept.opened, kept.leads)
-      by_answer None a (Some vote) b =
+      by_vote : (vote : Option (Ballot × Mark)) → HoldsIn (IsWellFormedVoteAt key version tx) vote → IsFormed (ask_step_after me volatile s tx key version vote)
+      by_vote (Some vote) b =
           (tt, sent-one me s (Message.Voted key version vote.0 tx vote.1) tt of_me h (record { instance = w; ballot_itself = b.0; entry = b.1 }), kept.opened, kept.leads)
-      by_answer None a None b = nothing
+      by_vote None b = nothing
+
+      by_answer : (o : Option Outcome) → HoldsIn (IsWellFormedHeard tx) o → IsFormed (ask_step_by me facts volatile s tx key version o)
+      by_answer (Some outcome) a = (tt, sent-one me s (Message.Outcome tx outcome) tt of_me h a, kept.opened, kept.leads)
+      by_answer None a =
+          cond_both (is_finished facts tx) (sending volatile (to_one me s (Message.Finished tx))) (ask_step_after me volatile s tx key version (vote_of facts key version tx)) IsFormed
+          (λ e. (tt, sent-one me s (Message.Finished tx) tt of_me h t, kept.opened, kept.leads))
+          (λ e. by_vote (vote_of facts key version tx) (vote-told facts key version tx known.well_formed))
 
   formed-message : (s : ℕ) (message : Message) → IsInRange 1 9 s → IsWellFormedMessage message → HasRoomFor message → OnStep IsFormed (message_step (here cluster me facts) volatile s message)
   formed-message s (Message.Propose choice) h w room =
@@ -129,9 +136,12 @@ module _ (cluster : Cluster) (me : ℕ) (facts : List Fact) (volatile : Volatile
   formed-message s (Message.Refused key version ballot promised) h w room =
       refused-step-formed cluster me facts sizes of_me known volatile kept key ballot promised
   formed-message s (Message.Outcome tx outcome) h w room = formed-outcome tx outcome w
-  formed-message s (Message.Ask tx key version) h w room = formed-ask s tx key version h w.1
+  formed-message s (Message.Ask tx key version) h w room = formed-ask s tx key version h w.0 w.1
   formed-message s (Message.SyncAsk key) h w room = (tt, sent-give cluster me facts s key known of_me h w, kept.opened, kept.leads)
   formed-message s (Message.SyncGive key version item adds) h w room = formed-give (record { key = key; version = version; item = item; adds = adds }) w
+  formed-message s (Message.Mark centre epoch seq) h w room = nothing
+  formed-message s (Message.Finished tx) h w room =
+      (tt, tt, each-kept IsWellFormedOpen (λ t. not (tx_eq t.tx tx)) volatile.manager.opened kept.opened, kept.leads)
   formed-message s (Message.ClientRead serial key) h w room = nothing
   formed-message s (Message.ClientBegin serial parts) h w room = nothing
   formed-message s (Message.ClientAnswer serial answer) h w room = nothing
@@ -149,6 +159,8 @@ module _ (cluster : Cluster) (me : ℕ) (facts : List Fact) (volatile : Volatile
   room-for room (Message.Ask tx key version) = tt
   room-for room (Message.SyncAsk key) = tt
   room-for room (Message.SyncGive key version item adds) = tt
+  room-for room (Message.Mark centre epoch seq) = tt
+  room-for room (Message.Finished tx) = tt
   room-for room (Message.ClientRead serial key) = tt
   room-for room (Message.ClientBegin serial parts) = tt
   room-for room (Message.ClientAnswer serial answer) = tt
@@ -168,6 +180,8 @@ module _ (cluster : Cluster) (me : ℕ) (facts : List Fact) (volatile : Volatile
   kept-message s (Message.Ask tx key version) h w = kept-part (message_step (here cluster me facts) volatile s (Message.Ask tx key version)) (formed-message s (Message.Ask tx key version) h w tt)
   kept-message s (Message.SyncAsk key) h w = kept-part (message_step (here cluster me facts) volatile s (Message.SyncAsk key)) (formed-message s (Message.SyncAsk key) h w tt)
   kept-message s (Message.SyncGive key version item adds) h w = kept-part (message_step (here cluster me facts) volatile s (Message.SyncGive key version item adds)) (formed-message s (Message.SyncGive key version item adds) h w tt)
+  kept-message s (Message.Mark centre epoch seq) h w = kept-part (message_step (here cluster me facts) volatile s (Message.Mark centre epoch seq)) (formed-message s (Message.Mark centre epoch seq) h w tt)
+  kept-message s (Message.Finished tx) h w = kept-part (message_step (here cluster me facts) volatile s (Message.Finished tx)) (formed-message s (Message.Finished tx) h w tt)
   kept-message s (Message.ClientRead serial key) h w = kept-part (message_step (here cluster me facts) volatile s (Message.ClientRead serial key)) (formed-message s (Message.ClientRead serial key) h w tt)
   kept-message s (Message.ClientBegin serial parts) h w = kept-part (message_step (here cluster me facts) volatile s (Message.ClientBegin serial parts)) (formed-message s (Message.ClientBegin serial parts) h w tt)
   kept-message s (Message.ClientAnswer serial answer) h w = kept-part (message_step (here cluster me facts) volatile s (Message.ClientAnswer serial answer)) (formed-message s (Message.ClientAnswer serial answer) h w tt)
@@ -192,6 +206,7 @@ module _ (cluster : Cluster) (me : ℕ) (facts : List Fact) (volatile : Volatile
       (formed-message envelope.from envelope.message (own-from envelope e) w.message (room-for room envelope.message)))
       (λ e. tt)
   formed-step Input.Tick w room = formed-tick-step
+  formed-step Input.Sweep w room = nothing
   formed-step (Input.Read key) w room = (tt, tt, kept.opened, kept.leads)
   formed-step (Input.Begin parts) w room = formed-begin parts w
 
@@ -202,6 +217,7 @@ module _ (cluster : Cluster) (me : ℕ) (facts : List Fact) (volatile : Volatile
       (kept-message envelope.from envelope.message (own-from envelope e) w.message))
       (λ e. tt)
   kept-step Input.Tick w = kept-part (Ok (tick_step (here cluster me facts) volatile)) formed-tick-step
+  kept-step Input.Sweep w = kept-part (Ok (nothing_done volatile)) nothing
   kept-step (Input.Read key) w = (tt, kept.opened, kept.leads)
   kept-step (Input.Begin parts) w = kept-part (Ok (begin_step (here cluster me facts) volatile parts)) (formed-begin parts w)
 
@@ -220,6 +236,8 @@ vote-formed cluster s (Message.Outcome tx outcome) w = tt
 vote-formed cluster s (Message.Ask tx key version) w = tt
 vote-formed cluster s (Message.SyncAsk key) w = tt
 vote-formed cluster s (Message.SyncGive key version item adds) w = tt
+vote-formed cluster s (Message.Mark centre epoch seq) w = tt
+vote-formed cluster s (Message.Finished tx) w = tt
 vote-formed cluster s (Message.ClientRead serial key) w = tt
 vote-formed cluster s (Message.ClientBegin serial parts) w = tt
 vote-formed cluster s (Message.ClientAnswer serial answer) w = tt
@@ -227,6 +245,7 @@ vote-formed cluster s (Message.ClientAnswer serial answer) w = tt
 input-formed : (cluster : Cluster) (me : ℕ) (facts : List Fact) (input : Input) → IsWellFormedInput input → HoldsOfInput IsWellFormedVoteKept cluster me facts input
 input-formed cluster me facts (Input.Message envelope) w = λ belongs. vote-formed cluster envelope.from envelope.message w.message
 input-formed cluster me facts Input.Tick w = tt
+input-formed cluster me facts Input.Sweep w = tt
 input-formed cluster me facts (Input.Read key) w = tt
 input-formed cluster me facts (Input.Begin parts) w = tt
 
@@ -255,7 +274,7 @@ module _ (cluster : Cluster) (me : ℕ) (facts : List Fact) (volatile : Volatile
   facts-stay None e = node.facts_themselves
   facts-stay (Some fact) e =
       let known = node.facts_themselves in
-      let allowed : is_allowed_fact cluster facts fact ≡ true = made-allowed cluster me facts volatile input step fact known.booted node.votes w made e in
+      let allowed : is_allowed_fact cluster facts fact ≡ true = made-allowed cluster me facts volatile input step fact known.allowed known.booted node.votes w made e in
       record {
         booted = booted-more facts fact known.booted (some_epoch cluster facts fact allowed);
         allowed = and_from (are_allowed_facts cluster facts) (is_allowed_fact cluster facts fact) known.allowed allowed;

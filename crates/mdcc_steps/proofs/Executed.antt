@@ -14,7 +14,7 @@ use Rattle.mdcc_struct.specs.Maps.{TxMap, union}
 use Rattle.mdcc_ledger.specs.BootTest.{are_allowed_facts, is_allowed_fact, is_allowed_kind}
 use Rattle.mdcc_ledger.specs.AllowedFacts.{is_booted}
 use Rattle.mdcc_protocol.specs.Belongs.{fact_belongs}
-use Rattle.mdcc_protocol.specs.Facts.{amounts_added, current_of, delta_given, deltas_at, deltas_from, epoch_of, executed_of, is_heard, version_from, version_given}
+use Rattle.mdcc_protocol.specs.Facts.{amounts_added, current_of, delta_given, deltas_at, deltas_from, epoch_of, executed_of, is_heard, version_from, version_given, is_finished}
 use Rattle.mdcc_protocol.specs.Marks.{Amounts, is_write}
 use Rattle.mdcc_protocol.specs.News.{is_crowding, is_news, keys_in}
 use Rattle.mdcc_messages.specs.declared.facts.Fact.{Fact}
@@ -53,6 +53,7 @@ no-version key (Fact.Heard tx (Outcome.Commit choices)) h = versions-same key ch
 no-version key (Fact.Heard tx Outcome.Abort) h = refl
 no-version key (Fact.Adopted key' version item adds) h = cond-false (key_eq key' key) version 0 (or_parts (key_eq key' key) false h).0
 no-version key (Fact.Booted epoch) h = refl
+no-version key (Fact.Floor origin era upto) h = refl
 no-version key (Fact.Promised key' low high ballot) h = refl
 no-version key (Fact.Voted key' version ballot options offered) h = refl
 
@@ -62,6 +63,7 @@ no-deltas key version (Fact.Heard tx Outcome.Abort) h = refl
 no-deltas key version (Fact.Adopted key' version' item adds) h =
     cond-false (version' == version && key_eq key' key) (map (λ delta. (delta.tx, delta.amounts)) adds) [] (and_right (version' == version) (key_eq key' key) (or_parts (key_eq key' key) false h).0)
 no-deltas key version (Fact.Booted epoch) h = refl
+no-deltas key version (Fact.Floor origin era upto) h = refl
 no-deltas key version (Fact.Promised key' low high ballot) h = refl
 no-deltas key version (Fact.Voted key' version' ballot options offered) h = refl
 
@@ -74,10 +76,11 @@ executed-same facts fact key h =
 
 kind-roomy : (cluster : Cluster) (facts : List Fact) (fact : Fact) → is_allowed_kind cluster facts fact ≡ true → is_crowding facts fact ≡ false
 kind-roomy cluster facts (Fact.Booted epoch) h = refl
+kind-roomy cluster facts (Fact.Floor origin era upto) h = refl
 kind-roomy cluster facts (Fact.Promised key low high ballot) h = refl
 kind-roomy cluster facts (Fact.Voted key version ballot options offered) h = refl
 kind-roomy cluster facts (Fact.Heard tx outcome) h =
-    not-true (is_crowding facts (Fact.Heard tx outcome)) (and_parts (not (is_heard facts tx)) (not (is_crowding facts (Fact.Heard tx outcome))) h).1
+    not-true (is_crowding facts (Fact.Heard tx outcome)) (and_parts (not (is_heard facts tx) && not (is_finished facts tx)) (not (is_crowding facts (Fact.Heard tx outcome))) h).1
 kind-roomy cluster facts (Fact.Adopted key version item adds) h =
     not-true (is_crowding facts (Fact.Adopted key version item adds)) (and_parts (is_news facts key version adds) (not (is_crowding facts (Fact.Adopted key version item adds))) h).1
 

@@ -17,7 +17,7 @@ use Rattle.mdcc_option.specs.declared.choices.Outcome.{Outcome}
 use Rattle.mdcc_option.specs.declared.cluster.Cluster.{Cluster}
 use Rattle.mdcc_option.specs.declared.faults.BeginFault.{BeginFault}
 use Rattle.mdcc_option.specs.declared.items.Part.{Part}
-use Rattle.mdcc_protocol.specs.Facts.{epoch_of, is_heard}
+use Rattle.mdcc_protocol.specs.Facts.{epoch_of, is_settled}
 use Rattle.mdcc_protocol.specs.Learner.{collided, is_learned, with_vote}
 use Rattle.mdcc_protocol.specs.Manager
 use Rattle.mdcc_protocol.specs.Manager.{act_on_cause, act_on_vote, acted, begin_with, begin_fault, choice_at, choice_unled, lead_act, parts_begin_fault, vote_taken}
@@ -160,7 +160,7 @@ module _ (cluster : Cluster) (me : ℕ) (facts : List Fact) (volatile : Volatile
 
   pub voted-formed : (vote : Vote) → IsWellFormedVoteKept vote → IsFormed (voted_step (here cluster me facts) volatile vote)
   voted-formed vote w =
-      cond_both (is_heard facts vote.tx) (nothing_done volatile) _ IsFormed (λ e. nothing-formed) (λ e.
+      cond_both (is_settled facts vote.tx) (nothing_done volatile) _ IsFormed (λ e. nothing-formed) (λ e.
       cond_both (is_open volatile.manager vote.tx)
       (opened_step (here cluster me facts) volatile vote (Manager.would_decide cluster.quorums volatile.manager vote))
       (watched_step (here cluster me facts) volatile vote (Recover.would_decide cluster.quorums facts volatile.recovery vote))

@@ -2,7 +2,7 @@
 use Rattle.std.proofs.Common.{ℕ, ◌-◌, ◌^◌, List, Option, Some, None, Result, Ok, Err}
 use Rattle.std.specs.Int.{IsInRange}
 use Rattle.std.specs.List.{AllByRecursion}
-use Rattle.std.proofs.lemmas.Bool.{ltb-true}
+use Rattle.std.proofs.lemmas.Bool.{ltb-true, cond_both}
 use Rattle.mdcc_base.specs.AreQuorums.{AreQuorums}
 use Rattle.mdcc_base.specs.declared.identifiers.Ballot.{Ballot}
 use Rattle.mdcc_base.specs.declared.key.Key.{Key}
@@ -10,11 +10,11 @@ use Rattle.mdcc_option.specs.declared.choices.Choice.{Choice}
 use Rattle.mdcc_option.specs.declared.choices.Claim.{Claim}
 use Rattle.mdcc_option.specs.declared.choices.Outcome.{Outcome}
 use Rattle.mdcc_option.specs.declared.cluster.Cluster.{Cluster}
-use Rattle.mdcc_protocol.specs.Facts.{epoch_of, heard_of}
+use Rattle.mdcc_protocol.specs.Facts.{epoch_of, is_finished, outcome_kept}
 use Rattle.mdcc_protocol.specs.Leader.{claim_of_choice, lead, on_promise}
 use Rattle.mdcc_rules.specs.LeaderRules.{lead_sent, lead_step, lead_step_after, led_by_answer, led_of, promise_sent, promise_step, promised_by_answer, refused_step, step_of_led}
 use Rattle.mdcc_rules.specs.TickRules.{claim_led, led_or_left}
-use Rattle.mdcc_rules.specs.Steps.{StepPart}
+use Rattle.mdcc_rules.specs.Steps.{StepPart, sending}
 use Rattle.mdcc_protocol.specs.Volatile.{Leading, Volatile, with_leader}
 use Rattle.mdcc_messages.specs.WellFormedParts.{IsWellFormedChoice, IsWellFormedHeard}
 use Rattle.mdcc_messages.specs.declared.facts.Fact.{Fact}
@@ -32,8 +32,9 @@ use Rattle.mdcc_steps.proofs.Leading.{AreLeads, IsFormedLeadAnswer, IsFormedLed,
 use Rattle.mdcc_steps.proofs.Opened.{epoch-fits}
 use Rattle.mdcc_steps.proofs.Sending.{IsGoodSent, sent-all, sent-one, sent-others}
 use Rattle.mdcc_steps.proofs.Ticked.{IsFormedTicked}
-use Rattle.mdcc_steps.proofs.Told.{heard-told}
+use Rattle.mdcc_steps.proofs.Told.{kept-told}
 use Rattle.mdcc_rules.specs.Here.{here}
+use Rattle.mdcc_rules.specs.Messages.{to_one}
 
 module _ (cluster : Cluster) (me : ℕ) (facts : List Fact) (sizes : AreQuorums cluster.quorums) (of_me : IsInRange 1 9 me) (known : AreNodeFacts cluster facts) where
   sent-lead : (claim : Claim) (answer : LeadAnswer) → IsFormedClaim claim → IsFormedLeadAnswer claim.key answer → AllByRecursion IsGoodSent (lead_sent cluster.quorums me claim answer)
@@ -79,10 +80,12 @@ module _ (cluster : Cluster) (me : ℕ) (facts : List Fact) (sizes : AreQuorums 
         → OnStep IsFormed (lead_step_after (here cluster me facts) volatile s choice o)
     lead-by s choice (Some outcome) of_s w h = (tt, sent-one me s (Message.Outcome choice.tx outcome) tt of_me of_s h, kept.opened, kept.leads)
     lead-by s choice None of_s w h =
-        part-step (led_of (here cluster me facts) volatile (claim_of_choice choice)) (claim-part volatile (claim_of_choice choice) kept (formed-choice choice w))
+        cond_both (is_finished facts choice.tx) (Ok (sending volatile (to_one me s (Message.Finished choice.tx)))) (step_of_led (led_of (here cluster me facts) volatile (claim_of_choice choice))) (OnStep IsFormed)
+        (λ e. (tt, sent-one me s (Message.Finished choice.tx) tt of_me of_s w.tx, kept.opened, kept.leads))
+        (λ e. part-step (led_of (here cluster me facts) volatile (claim_of_choice choice)) (claim-part volatile (claim_of_choice choice) kept (formed-choice choice w)))
 
     pub lead-step-formed : (s : ℕ) (choice : Choice) → IsInRange 1 9 s → IsWellFormedChoice choice → OnStep IsFormed (lead_step (here cluster me facts) volatile s choice)
-    lead-step-formed s choice of_s w = lead-by s choice (heard_of facts choice.tx) of_s w (heard-told facts choice.tx known.well_formed)
+    lead-step-formed s choice of_s w = lead-by s choice (outcome_kept facts choice.tx) of_s w (kept-told facts choice.tx known.well_formed)
 
     sent-promised : (key : Key) (answer : PromiseAnswer) → IsFormedPromiseAnswer key answer → AllByRecursion IsGoodSent (promise_sent cluster.quorums me key answer)
     sent-promised key (PromiseAnswer.Accept version ballot options) h =

@@ -27,4 +27,5 @@ pub mod Stepping
 pub mod Structuring
 pub mod Ticked
 pub mod Told
+pub mod Unfloored
 pub mod Voting

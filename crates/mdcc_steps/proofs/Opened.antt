@@ -28,6 +28,7 @@ epoch-fits (Fact.Booted epoch ∷ facts) w h = w.0
 epoch-fits (Fact.Promised key low high ballot ∷ facts) w h = epoch-fits facts w.1 h
 epoch-fits (Fact.Voted key version ballot options offered ∷ facts) w h = epoch-fits facts w.1 h
 epoch-fits (Fact.Heard tx outcome ∷ facts) w h = epoch-fits facts w.1 h
+epoch-fits (Fact.Floor origin era upto ∷ facts) w h = epoch-fits facts w.1 h
 epoch-fits (Fact.Adopted key version item adds ∷ facts) w h = epoch-fits facts w.1 h
 
 pub length-map : {X Y : Type 0} (f : X → Y) (xs : List X) → length (map f xs) ≡ length xs

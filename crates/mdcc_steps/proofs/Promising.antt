@@ -16,7 +16,7 @@ use Rattle.mdcc_struct.proofs.Walks.{ascending-filter}
 use Rattle.mdcc_protocol.specs.Acceptor.{answer_to_marks, new_marks, promise_answer, range_end}
 use Rattle.mdcc_rules.specs.AcceptorRules.{accept_step, accepted_step, all_votes_sent, prepare_step, prepared_step, promise_message, votes_sent}
 use Rattle.mdcc_ledger.specs.BootTest.{are_allowed_facts, is_allowed_fact, is_allowed_kind}
-use Rattle.mdcc_protocol.specs.Facts.{ballot_voted, current_of, is_heard, last_ballot, promise_of, promised_through, range_promised, votes_of}
+use Rattle.mdcc_protocol.specs.Facts.{ballot_voted, current_of, last_ballot, promise_of, promised_through, range_promised, votes_of, is_finished, is_forgotten, is_settled, shown_of}
 use Rattle.mdcc_base.specs.Counts.{sum_over}
 use Rattle.mdcc_messages.specs.Lengths.{fact_length}
 use Rattle.mdcc_protocol.specs.Volatile.{Volatile}
@@ -42,6 +42,7 @@ reported-here : (key : Key) (version : ℕ) (below : Ballot) (fact : Fact) → I
 reported-here key version below (Fact.Voted key' version' ballot options offered) w =
     cond_both (version' == version && ballot_lt ballot below && key_eq key' key) ballot fast_ballot IsWellFormedBallot (λ e. w.ballot_itself) (λ e. inl refl)
 reported-here key version below (Fact.Booted epoch) w = inl refl
+reported-here key version below (Fact.Floor origin era upto) w = inl refl
 reported-here key version below (Fact.Promised key' low high ballot) w = inl refl
 reported-here key version below (Fact.Heard tx outcome) w = inl refl
 reported-here key version below (Fact.Adopted key' version' item adds) w = inl refl
@@ -73,6 +74,7 @@ range-here cluster facts key version ballot (Fact.Promised key' low high ballot'
     (omega arith, w.high_fits))
     (λ e. tt)
 range-here cluster facts key version ballot (Fact.Booted epoch) w h = tt
+range-here cluster facts key version ballot (Fact.Floor origin era upto) w h = tt
 range-here cluster facts key version ballot (Fact.Voted key' version' ballot' options offered) w h = tt
 range-here cluster facts key version ballot (Fact.Heard tx outcome) w h = tt
 range-here cluster facts key version ballot (Fact.Adopted key' version' item adds) w h = tt
@@ -98,12 +100,14 @@ filter-few {X = X} test (x ∷ xs) =
 
 module _ (cluster : Cluster) (me : ℕ) (facts : List Fact) (volatile : Volatile) (of_me : IsInRange 1 9 me) (known : AreNodeFacts cluster facts) (room : sum_over fact_length facts < 2 ^ 32)
     (kept : IsWellFormedVolatile volatile) where
-  report-formed : (key : Key) (version : ℕ) (ballot : Ballot) → IsWellFormedOptions key version (votes_of facts key version ballot)
-  report-formed key version ballot = record {
-    count = votes-few facts key version ballot room;
-    each = marks-told facts key version ballot known.well_formed;
-    ascending = marks-ascending facts key version ballot;
-  }
+  report-formed : (key : Key) (version : ℕ) (ballot : Ballot) → IsWellFormedOptions key version (shown_of facts key version ballot)
+  report-formed key version ballot =
+      let shown : TxId × Mark → Bool = λ e. not (is_forgotten facts key version e.0) in
+      record {
+        count = omega (arith, votes-few facts key version ballot room, filter-few shown (votes_of facts key version ballot));
+        each = each-kept (λ (e : TxId × Mark). IsWellFormedEntry key version e.0 e.1) shown (votes_of facts key version ballot) (marks-told facts key version ballot known.well_formed);
+        ascending = ascending-filter shown (votes_of facts key version ballot) (marks-ascending facts key version ballot);
+      }
 
   promise-formed : (key : Key) (version high : ℕ) (ballot : Ballot) → IsWellFormedInstance key version → IsRangeFrom version high → IsWellFormedClassic ballot
       → IsWellFormedMessage (promise_message facts key version high ballot)
@@ -168,11 +172,11 @@ module _ (cluster : Cluster) (me : ℕ) (facts : List Fact) (volatile : Volatile
   sent-marks : (key : Key) (version : ℕ) (ballot : Ballot) (options : Options) → IsWellFormedInstance key version → IsWellFormedClassic ballot
       → AllByRecursion (λ e. IsWellFormedEntry key version e.0 e.1) options → AllByRecursion IsGoodSent (all_votes_sent me facts key version ballot options)
   sent-marks key version ballot options w c h =
-      each-flat_map (λ (e : TxId × Mark). IsWellFormedEntry key version e.0 e.1) IsGoodSent (votes_sent me key version ballot) (filter (λ e. not (is_heard facts e.0)) options)
-      (λ e k. sent-mark key version ballot e w c k) (each-kept (λ (e : TxId × Mark). IsWellFormedEntry key version e.0 e.1) (λ e. not (is_heard facts e.0)) options h)
+      each-flat_map (λ (e : TxId × Mark). IsWellFormedEntry key version e.0 e.1) IsGoodSent (votes_sent me key version ballot) (filter (λ e. not (is_settled facts e.0)) options)
+      (λ e k. sent-mark key version ballot e w c k) (each-kept (λ (e : TxId × Mark). IsWellFormedEntry key version e.0 e.1) (λ e. not (is_settled facts e.0)) options h)
 
   abbrev is_new : Key → ℕ → Ballot → TxId × Mark → Bool
-  is_new key version ballot e = not (is_some (value_of (votes_of facts key version ballot) e.0))
+  is_new key version ballot e = not (is_some (value_of (votes_of facts key version ballot) e.0) || is_finished facts e.0)
 
   new-formed : (key : Key) (version : ℕ) (ballot : Ballot) (options : Options) → IsWellFormedOptions key version options → IsWellFormedOptions key version (new_marks facts key version ballot options)
   new-formed key version ballot options h = record {

@@ -14,9 +14,9 @@ use Rattle.mdcc_option.specs.declared.cluster.Cluster.{Cluster}
 use Rattle.mdcc_option.specs.declared.items.Item.{Item}
 use Rattle.mdcc_option.specs.declared.items.Update.{Update}
 use Rattle.mdcc_option.specs.declared.schema.Schema.{Schema}
-use Rattle.mdcc_protocol.specs.Acceptor.{answer_after, answer_by_promise, answer_to_new, fit_of, on_propose, vote_by_fit, vote_on, vote_to_accept, vote_to_reject}
+use Rattle.mdcc_protocol.specs.Acceptor.{answer_after, answer_by_promise, answer_to_new, fit_of, on_propose, vote_by_fit, vote_on, vote_to_accept, vote_to_reject, answer_by_vote}
 use Rattle.mdcc_rules.specs.AcceptorRules.{proposed_step}
-use Rattle.mdcc_protocol.specs.Facts.{base_of, current_of, entries_of, heard_of, live_of, promise_of, vote_of}
+use Rattle.mdcc_protocol.specs.Facts.{base_of, current_of, entries_of, live_of, promise_of, vote_of, is_finished, outcome_kept}
 use Rattle.mdcc_protocol.specs.Fit.{Quantity, exact_fit, first_number, fit_in_room, fit_in_share, is_past_limit, is_past_room, limit_of, load_of, quantities_of, quantity_at}
 use Rattle.mdcc_protocol.specs.Marks.{Amounts, seen_in}
 use Rattle.mdcc_protocol.specs.Structures.{accept_room, reject_room}
@@ -31,7 +31,7 @@ use Rattle.mdcc_messages.specs.declared.messages.Message.{Message}
 use Rattle.mdcc_steps.proofs.Each.{each-map, each-weaker}
 use Rattle.mdcc_steps.proofs.Held.{HoldsIn, holds-map}
 use Rattle.mdcc_steps.proofs.Sending.{IsGoodSent, sent-one}
-use Rattle.mdcc_steps.proofs.Told.{IsWellFormedVoteAt, heard-told, promise-told, vote-told}
+use Rattle.mdcc_steps.proofs.Told.{IsWellFormedVoteAt, promise-told, vote-told, kept-told}
 
 -- ---- the quantity of a limit is one of five
 
@@ -92,6 +92,7 @@ small-fit cluster facts choice w =
 
 abbrev pub IsFormedAnswer : Choice → ProposeAnswer → Type 0
 IsFormedAnswer choice (ProposeAnswer.Known outcome) = IsWellFormedHeard choice.tx outcome
+IsFormedAnswer choice ProposeAnswer.Finished = Unit {0}
 IsFormedAnswer choice (ProposeAnswer.Again ballot mark) = IsWellFormedVoteAt choice.key choice.version choice.tx (ballot, mark)
 IsFormedAnswer choice (ProposeAnswer.Escalate cause) = IsWellFormedCause cause
 IsFormedAnswer choice (ProposeAnswer.Vote mark) = IsWellFormedEntry choice.key choice.version choice.tx mark
@@ -135,13 +136,17 @@ formed-new cluster facts choice w known =
 
 pub formed-answer : (cluster : Cluster) (facts : List Fact) (choice : Choice) → IsWellFormedChoice choice → AllByRecursion IsWellFormedFact facts → IsFormedAnswer choice (on_propose cluster facts choice)
 formed-answer cluster facts choice w known =
-    by_answer (heard_of facts choice.tx) (heard-told facts choice.tx known) (vote_of facts choice.key choice.version choice.tx) (vote-told facts choice.key choice.version choice.tx known)
+    by_answer (outcome_kept facts choice.tx) (kept-told facts choice.tx known)
   where
-    by_answer : (o : Option Outcome) → HoldsIn (IsWellFormedHeard choice.tx) o → (vote : Option (Ballot × Mark)) → HoldsIn (IsWellFormedVoteAt choice.key choice.version choice.tx) vote
-        → IsFormedAnswer choice (answer_after cluster facts choice o vote)
-    by_answer (Some outcome) h vote k = h
-    by_answer None h (Some vote) k = k
-    by_answer None h None k = formed-new cluster facts choice w known
+    by_vote : (vote : Option (Ballot × Mark)) → HoldsIn (IsWellFormedVoteAt choice.key choice.version choice.tx) vote → IsFormedAnswer choice (answer_by_vote cluster facts choice vote)
+    by_vote (Some vote) k = k
+    by_vote None k = formed-new cluster facts choice w known
+
+    by_answer : (o : Option Outcome) → HoldsIn (IsWellFormedHeard choice.tx) o → IsFormedAnswer choice (answer_after cluster facts choice o)
+    by_answer (Some outcome) h = h
+    by_answer None h =
+        cond_both (is_finished facts choice.tx) ProposeAnswer.Finished (answer_by_vote cluster facts choice (vote_of facts choice.key choice.version choice.tx)) (IsFormedAnswer choice) (λ e. tt)
+        (λ e. by_vote (vote_of facts choice.key choice.version choice.tx) (vote-told facts choice.key choice.version choice.tx known))
 
 -- ---- what it sends and adds
 
@@ -151,6 +156,7 @@ instance-of choice w = record { key_itself = w.key; version_fits = w.version }
 pub proposed-sent : (me : ℕ) (volatile : Volatile) (s : ℕ) (choice : Choice) (answer : ProposeAnswer) → IsInRange 1 9 me → IsInRange 1 9 s → IsWellFormedChoice choice
     → IsFormedAnswer choice answer → AllByRecursion IsGoodSent (proposed_step me volatile s choice answer).sends
 proposed-sent me volatile s choice (ProposeAnswer.Known outcome) h k w a = sent-one me s (Message.Outcome choice.tx outcome) tt h k a
+proposed-sent me volatile s choice ProposeAnswer.Finished h k w a = sent-one me s (Message.Finished choice.tx) tt h k w.tx
 proposed-sent me volatile s choice (ProposeAnswer.Again ballot mark) h k w a =
     sent-one me s (Message.Voted choice.key choice.version ballot choice.tx mark) tt h k (record { instance = instance-of choice w; ballot_itself = a.0; entry = a.1 })
 proposed-sent me volatile s choice (ProposeAnswer.Escalate cause) h k w a =
@@ -161,6 +167,7 @@ proposed-sent me volatile s choice (ProposeAnswer.Vote mark) h k w a =
 pub proposed-fact : (me : ℕ) (volatile : Volatile) (s : ℕ) (choice : Choice) (answer : ProposeAnswer) → IsWellFormedChoice choice
     → IsFormedAnswer choice answer → HoldsIn IsWellFormedFact (proposed_step me volatile s choice answer).fact
 proposed-fact me volatile s choice (ProposeAnswer.Known outcome) w a = tt
+proposed-fact me volatile s choice ProposeAnswer.Finished w a = tt
 proposed-fact me volatile s choice (ProposeAnswer.Again ballot mark) w a = tt
 proposed-fact me volatile s choice (ProposeAnswer.Escalate cause) w a = tt
 proposed-fact me volatile s choice (ProposeAnswer.Vote (Mark.Accept other)) w a = record {

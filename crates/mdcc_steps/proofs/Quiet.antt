@@ -11,8 +11,8 @@ use Rattle.mdcc_option.specs.declared.choices.Outcome.{Outcome}
 use Rattle.mdcc_option.specs.declared.cluster.Cluster.{Cluster}
 use Rattle.mdcc_struct.specs.declared.options.Options.{Options}
 use Rattle.mdcc_protocol.specs.Acceptor.{on_accept, on_prepare, on_propose}
-use Rattle.mdcc_rules.specs.AcceptorRules.{accepted_step, ask_step_by, prepared_step, proposed_step}
-use Rattle.mdcc_protocol.specs.Facts.{heard_of, is_heard, vote_of}
+use Rattle.mdcc_rules.specs.AcceptorRules.{accepted_step, ask_step_by, prepared_step, proposed_step, ask_step_after}
+use Rattle.mdcc_protocol.specs.Facts.{vote_of, is_finished, is_settled, outcome_kept}
 use Rattle.mdcc_protocol.specs.Leader.{claim_of_choice}
 use Rattle.mdcc_rules.specs.LeaderRules.{lead_step_after, led_of, step_of_led}
 use Rattle.mdcc_protocol.specs.Learner.{is_learned}
@@ -21,7 +21,7 @@ use Rattle.mdcc_protocol.specs.Manager.{act_on_cause, acted}
 use Rattle.mdcc_rules.specs.ManagerRules.{acted_step, escalate_step, opened_step, undecided_step, voted_step, watched_step}
 use Rattle.mdcc_rules.specs.Node.{message_step}
 use Rattle.mdcc_protocol.specs.Recover
-use Rattle.mdcc_rules.specs.Steps.{NodeStep, StepPart, nothing_done}
+use Rattle.mdcc_rules.specs.Steps.{NodeStep, StepPart, nothing_done, sending}
 use Rattle.mdcc_rules.specs.SyncRules.{outcome_step_by, sync_give_step_by}
 use Rattle.mdcc_protocol.specs.Visible.{on_outcome, on_sync_give}
 use Rattle.mdcc_protocol.specs.Volatile.{Managing, Volatile, is_open}
@@ -35,6 +35,7 @@ use Rattle.mdcc_messages.specs.declared.messages.Message.{Message}
 use Rattle.mdcc_protocol.specs.declared.votes.Vote.{Vote}
 use Rattle.mdcc_steps.proofs.Allowing.{OnStep}
 use Rattle.mdcc_rules.specs.Here.{here}
+use Rattle.mdcc_rules.specs.Messages.{to_one}
 
 abbrev pub IsQuiet : NodeStep → Type 0
 IsQuiet step = step.answer ≡ None
@@ -42,6 +43,7 @@ IsQuiet step = step.answer ≡ None
 module _ (cluster : Cluster) (me : ℕ) (facts : List Fact) (volatile : Volatile) where
   quiet-proposed : (s : ℕ) (choice : Choice) (answer : ProposeAnswer) → IsQuiet (proposed_step me volatile s choice answer)
   quiet-proposed s choice (ProposeAnswer.Known outcome) = refl
+  quiet-proposed s choice ProposeAnswer.Finished = refl
   quiet-proposed s choice (ProposeAnswer.Again ballot mark) = refl
   quiet-proposed s choice (ProposeAnswer.Vote mark) = refl
   quiet-proposed s choice (ProposeAnswer.Escalate cause) = refl
@@ -59,7 +61,7 @@ module _ (cluster : Cluster) (me : ℕ) (facts : List Fact) (volatile : Volatile
 
   quiet-voted : (vote : Vote) → IsQuiet (voted_step (here cluster me facts) volatile vote)
   quiet-voted vote =
-      cond_both (is_heard facts vote.tx) (nothing_done volatile) _ IsQuiet (λ e. refl) (λ e.
+      cond_both (is_settled facts vote.tx) (nothing_done volatile) _ IsQuiet (λ e. refl) (λ e.
       cond_both (is_open volatile.manager vote.tx)
       (opened_step (here cluster me facts) volatile vote (Manager.would_decide cluster.quorums volatile.manager vote))
       (watched_step (here cluster me facts) volatile vote (Recover.would_decide cluster.quorums facts volatile.recovery vote))
@@ -83,7 +85,9 @@ module _ (cluster : Cluster) (me : ℕ) (facts : List Fact) (volatile : Volatile
 
   quiet-lead : (s : ℕ) (choice : Choice) (o : Option Outcome) → OnStep IsQuiet (lead_step_after (here cluster me facts) volatile s choice o)
   quiet-lead s choice (Some outcome) = refl
-  quiet-lead s choice None = quiet-led (led_of (here cluster me facts) volatile (claim_of_choice choice))
+  quiet-lead s choice None =
+      cond_both (is_finished facts choice.tx) (Ok (sending volatile (to_one me s (Message.Finished choice.tx)))) (step_of_led (led_of (here cluster me facts) volatile (claim_of_choice choice))) (OnStep IsQuiet)
+      (λ e. refl) (λ e. quiet-led (led_of (here cluster me facts) volatile (claim_of_choice choice)))
 
   quiet-prepared : (l : ℕ) (key : Key) (version : ℕ) (ballot : Ballot) (answer : PrepareAnswer) → IsQuiet (prepared_step me facts volatile l key version ballot answer)
   quiet-prepared l key version ballot (PrepareAnswer.Refused promise) = refl
@@ -96,10 +100,14 @@ module _ (cluster : Cluster) (me : ℕ) (facts : List Fact) (volatile : Volatile
   quiet-accepted l key version ballot options AcceptAnswer.Older = refl
   quiet-accepted l key version ballot options AcceptAnswer.Vote = refl
 
-  quiet-asked : (s : ℕ) (tx : TxId) (key : Key) (version : ℕ) (o : Option Outcome) (vote : Option (Ballot × Mark)) → IsQuiet (ask_step_by me volatile s tx key version o vote)
-  quiet-asked s tx key version (Some outcome) vote = refl
-  quiet-asked s tx key version None (Some vote) = refl
-  quiet-asked s tx key version None None = refl
+  quiet-asked : (s : ℕ) (tx : TxId) (key : Key) (version : ℕ) (o : Option Outcome) → IsQuiet (ask_step_by me facts volatile s tx key version o)
+  quiet-asked s tx key version (Some outcome) = refl
+  quiet-asked s tx key version None =
+      cond_both (is_finished facts tx) (sending volatile (to_one me s (Message.Finished tx))) (ask_step_after me volatile s tx key version (vote_of facts key version tx)) IsQuiet (λ e. refl) (λ e. by_vote (vote_of facts key version tx))
+    where
+      by_vote : (vote : Option (Ballot × Mark)) → IsQuiet (ask_step_after me volatile s tx key version vote)
+      by_vote (Some vote) = refl
+      by_vote None = refl
 
   quiet-given : (o : Option Fact) → IsQuiet (sync_give_step_by volatile o)
   quiet-given None = refl
@@ -110,16 +118,18 @@ module _ (cluster : Cluster) (me : ℕ) (facts : List Fact) (volatile : Volatile
   quiet-message s (Message.Voted key version ballot tx mark) =
       quiet-voted (record { from = s; key = key; version = version; ballot = ballot; tx = tx; mark = mark })
   quiet-message s (Message.Escalate key version tx cause) = quiet-escalate s key tx cause
-  quiet-message s (Message.Lead choice) = quiet-lead s choice (heard_of facts choice.tx)
+  quiet-message s (Message.Lead choice) = quiet-lead s choice (outcome_kept facts choice.tx)
   quiet-message s (Message.Prepare key version through ballot) = quiet-prepared s key version ballot (on_prepare facts key version through ballot)
   quiet-message s (Message.Promise key version through ballot reported votes) = quiet-led _
   quiet-message s (Message.Accept key version ballot options) = quiet-accepted s key version ballot options (on_accept facts key version ballot options)
   quiet-message s (Message.Refused key version ballot promised) = refl
   quiet-message s (Message.Outcome tx outcome) = quiet-outcome tx (on_outcome facts tx outcome)
-  quiet-message s (Message.Ask tx key version) = quiet-asked s tx key version (heard_of facts tx) (vote_of facts key version tx)
+  quiet-message s (Message.Ask tx key version) = quiet-asked s tx key version (outcome_kept facts tx)
   quiet-message s (Message.SyncAsk key) = refl
   quiet-message s (Message.SyncGive key version item adds) =
       quiet-given (on_sync_give facts (record { key = key; version = version; item = item; adds = adds }))
+  quiet-message s (Message.Mark centre epoch seq) = refl
+  quiet-message s (Message.Finished tx) = refl
   quiet-message s (Message.ClientRead serial key) = refl
   quiet-message s (Message.ClientBegin serial parts) = refl
   quiet-message s (Message.ClientAnswer serial answer) = refl

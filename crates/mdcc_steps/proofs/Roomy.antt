@@ -6,7 +6,7 @@ use Rattle.mdcc_option.specs.declared.cluster.Cluster.{Cluster}
 use Rattle.mdcc_option.specs.declared.faults.BeginFault.{BeginFault}
 use Rattle.mdcc_option.specs.declared.items.Part.{Part}
 use Rattle.mdcc_protocol.specs.Facts.{epoch_of}
-use Rattle.mdcc_messages.specs.Lengths.{cells_needed, cells_used}
+use Rattle.mdcc_messages.specs.Lengths.{cells_needed, fact_length}
 use Rattle.mdcc_protocol.specs.Manager.{begin_with, begin_fault}
 use Rattle.mdcc_rules.specs.ManagerRules.{begin_step_by}
 use Rattle.mdcc_protocol.specs.News.{is_crowding}
@@ -19,17 +19,35 @@ use Rattle.mdcc_rules.specs.declared.node.StepFault.{StepFault}
 use Rattle.mdcc_steps.proofs.Allowing.{OnStep}
 use Rattle.mdcc_steps.proofs.Stepping.{on_made}
 use Rattle.mdcc_rules.specs.Here.{here}
+use Rattle.mdcc_protocol.specs.Cells.{cells_held}
+use Rattle.std.specs.Int.{div_ceil}
+use Rattle.mdcc_steps.specs.NodeInvariant.{FitInTurn}
 
-module _ (cluster : Cluster) (me : ℕ) (facts : List Fact) (volatile : Volatile) (before : cells_used facts ≤ cluster.cells) where
+some-byte : (fact : Fact) → 1 ≤ fact_length fact
+some-byte (Fact.Booted epoch) = omega arith
+some-byte (Fact.Promised key low high ballot) = omega arith
+some-byte (Fact.Voted key version ballot options offered) = omega arith
+some-byte (Fact.Heard tx outcome) = omega arith
+some-byte (Fact.Adopted key version item adds) = omega arith
+some-byte (Fact.Floor origin era upto) = omega arith
+
+-- a fact needs a cell
+some-cell : (fact : Fact) → 1 ≤ cells_needed fact
+some-cell fact = whole (fact_length fact) (some-byte fact)
+  where
+    whole : (n : ℕ) → 1 ≤ n → 1 ≤ div_ceil n 60
+    whole n h = omega (arith, h)
+
+module _ (cluster : Cluster) (me : ℕ) (facts : List Fact) (volatile : Volatile) (before : FitInTurn cluster facts) where
   abbrev pub IsWithin : NodeStep → Type 0
-  IsWithin step = cells_used (with_new facts step.fact) ≤ cluster.cells
+  IsWithin step = FitInTurn cluster (with_new facts step.fact)
 
-  fits : (fact : Fact) → is_without_room cluster facts fact ≡ false → cells_used (fact ∷ facts) ≤ cluster.cells
+  fits : (fact : Fact) → is_without_room cluster facts fact ≡ false → FitInTurn cluster (fact ∷ facts)
   fits fact h =
-      let spare = ltb-false (cluster.cells - cells_used facts) (cells_needed fact) h in sum (cells_needed fact) (cells_used facts) cluster.cells before spare
+      let spare = ltb-false (cluster.cells - cells_held facts) (cells_needed fact) h in (before, sum (cells_needed fact) (cells_held facts) cluster.cells (some-cell fact) spare)
     where
-      sum : (a b c : ℕ) → b ≤ c → a ≤ c - b → a + b ≤ c
-      sum a b c h k = omega arith
+      sum : (a b c : ℕ) → 1 ≤ a → a ≤ c - b → b + a ≤ c
+      sum a b c h k = omega (arith, h, k)
 
   within-room : (step : NodeStep) (o : Option Fact) → step.fact ≡ o → OnStep IsWithin (with_room cluster facts step o)
   within-room step None e = rw e before
@@ -50,10 +68,11 @@ module _ (cluster : Cluster) (me : ℕ) (facts : List Fact) (volatile : Volatile
       cond_both (is_own_message cluster me envelope) (checked cluster facts (message_step (here cluster me facts) volatile envelope.from envelope.message)) (Err StepFault.Foreign) (OnStep IsWithin)
       (λ e. within-checked (message_step (here cluster me facts) volatile envelope.from envelope.message)) (λ e. tt)
   within Input.Tick = before
+  within Input.Sweep = before
   within (Input.Read key) = before
   within (Input.Begin parts) = within-begun parts (begin_fault facts volatile.manager parts)
 
-pub room-stays : (cluster : Cluster) (me : ℕ) (facts : List Fact) (volatile : Volatile) (input : Input) (step : NodeStep) → cells_used facts ≤ cluster.cells
-    → step_of (here cluster me facts) volatile input ≡ Ok step → cells_used (with_new facts step.fact) ≤ cluster.cells
+pub room-stays : (cluster : Cluster) (me : ℕ) (facts : List Fact) (volatile : Volatile) (input : Input) (step : NodeStep) → FitInTurn cluster facts
+    → step_of (here cluster me facts) volatile input ≡ Ok step → FitInTurn cluster (with_new facts step.fact)
 room-stays cluster me facts volatile input step before made =
     on_made (IsWithin cluster me facts volatile before) _ step (within cluster me facts volatile before input) made

@@ -1,5 +1,5 @@
 -- A step adds a fact of at most 8,964 bytes, or one that is no longer than the structure that it was sent.
-use Rattle.std.proofs.Common.{◌≡◌, ℕ, ◌+◌, ◌*◌, ◌≤◌, ◌⊎◌, inl, inr, refl, Bool, true, false, List, [], ◌∷◌, length, Option, Some, None, Result, Ok, Err, arith}
+use Rattle.std.proofs.Common.{◌≡◌, ℕ, ◌+◌, ◌*◌, ◌≤◌, ◌⊎◌, inl, inr, refl, Bool, true, false, List, [], ◌∷◌, length, Option, Some, None, Result, Ok, Err, arith, ◌||◌}
 use Rattle.std.specs.List.{AllByRecursion}
 use Rattle.std.proofs.lemmas.Bool.{cond_both}
 use Rattle.mdcc_base.specs.Counts.{sum_over}
@@ -16,8 +16,8 @@ use Rattle.mdcc_option.specs.declared.items.Part.{Part}
 use Rattle.mdcc_struct.specs.declared.options.Options.{Options}
 use Rattle.mdcc_protocol.specs.Acceptor.{on_accept, on_prepare, on_propose}
 use Rattle.mdcc_protocol.specs.Belongs.{is_centre}
-use Rattle.mdcc_rules.specs.AcceptorRules.{accepted_step, ask_step_by, prepared_step, proposed_step}
-use Rattle.mdcc_protocol.specs.Facts.{epoch_of, heard_of, is_heard, vote_of, votes_of}
+use Rattle.mdcc_rules.specs.AcceptorRules.{accepted_step, ask_step_by, prepared_step, proposed_step, ask_step_after}
+use Rattle.mdcc_protocol.specs.Facts.{epoch_of, vote_of, votes_of, is_finished, is_settled, outcome_kept}
 use Rattle.mdcc_rules.specs.LeaderRules.{lead_step_after, led_of, step_of_led}
 use Rattle.mdcc_protocol.specs.Leader.{claim_of_choice}
 use Rattle.mdcc_struct.specs.Maps.{value_of}
@@ -33,7 +33,7 @@ use Rattle.mdcc_rules.specs.ManagerRules.{begin_step_by, opened_step, undecided_
 use Rattle.mdcc_protocol.specs.News.{is_news}
 use Rattle.mdcc_rules.specs.Node.{checked, is_own_message, message_step, step_of}
 use Rattle.mdcc_protocol.specs.Recover
-use Rattle.mdcc_rules.specs.Steps.{NodeStep, StepPart, nothing_done}
+use Rattle.mdcc_rules.specs.Steps.{NodeStep, StepPart, nothing_done, sending}
 use Rattle.mdcc_rules.specs.SyncRules.{outcome_step, outcome_step_by, sync_give_step, sync_give_step_by}
 use Rattle.mdcc_protocol.specs.Volatile.{Volatile, is_open}
 use Rattle.mdcc_messages.specs.WellFormed.{IsWellFormedFact, IsWellFormedMessage, IsWellFormedOffered}
@@ -57,6 +57,7 @@ use Rattle.mdcc_protocol.specs.Marks.{accepts_in, rejects_in}
 use Rattle.mdcc_steps.proofs.Held.{HoldsIn, holds-at}
 use Rattle.mdcc_steps.proofs.Stepping.{on_made}
 use Rattle.mdcc_rules.specs.Here.{here}
+use Rattle.mdcc_rules.specs.Messages.{to_one}
 
 -- ---- the longest fact
 
@@ -88,6 +89,7 @@ HasOneMark _ = Unit {0}
 
 longest-fact : (fact : Fact) → IsWellFormedFact fact → HasOneMark fact → fact_length fact ≤ 8964
 longest-fact (Fact.Booted epoch) w one = omega arith
+longest-fact (Fact.Floor origin era upto) w one = omega arith
 longest-fact (Fact.Promised key low high ballot) w one = omega (arith, w.instance.key_itself.fits)
 longest-fact (Fact.Voted key version ballot options offered) w one =
     omega (arith, w.instance.key_itself.fits, longest-entries key version options w.options_itself.each, longest-offered key version offered w.offered_itself, one)
@@ -131,7 +133,9 @@ module _ (cluster : Cluster) (me : ℕ) (facts : List Fact) (volatile : Volatile
 
   single-lead : (s : ℕ) (choice : Choice) (o : Option Outcome) → OnStep IsSingle (lead_step_after (here cluster me facts) volatile s choice o)
   single-lead s choice (Some outcome) = tt
-  single-lead s choice None = single-led (led_of (here cluster me facts) volatile (claim_of_choice choice))
+  single-lead s choice None =
+      cond_both (is_finished facts choice.tx) (Ok (sending volatile (to_one me s (Message.Finished choice.tx)))) (step_of_led (led_of (here cluster me facts) volatile (claim_of_choice choice))) (OnStep IsSingle)
+      (λ e. tt) (λ e. single-led (led_of (here cluster me facts) volatile (claim_of_choice choice)))
 
   single-prepared : (s : ℕ) (key : Key) (version : ℕ) (ballot : Ballot) (answer : PrepareAnswer) → IsSingle (prepared_step me facts volatile s key version ballot answer)
   single-prepared s key version ballot (PrepareAnswer.Refused promise) = tt
@@ -144,7 +148,7 @@ module _ (cluster : Cluster) (me : ℕ) (facts : List Fact) (volatile : Volatile
   brief-accepted s from to key version ballot options (AcceptAnswer.Behind current) = tt
   brief-accepted s from to key version ballot options AcceptAnswer.Older = tt
   brief-accepted s from to key version ballot options AcceptAnswer.Vote =
-      let kept = kept-short (λ e. not (is_some (value_of (votes_of facts key version ballot) e.0))) options in
+      let kept = kept-short (λ e. not (is_some (value_of (votes_of facts key version ballot) e.0) || is_finished facts e.0)) options in
       inr (omega arith)
 
   on-brief : (n : ℕ) (r : Result NodeStep StepFault) → OnStep IsSingle r → OnStep (IsBriefStep n) r
@@ -153,6 +157,7 @@ module _ (cluster : Cluster) (me : ℕ) (facts : List Fact) (volatile : Volatile
 
   single-proposed : (s : ℕ) (choice : Choice) (answer : ProposeAnswer) → IsSingle (proposed_step me volatile s choice answer)
   single-proposed s choice (ProposeAnswer.Known outcome) = tt
+  single-proposed s choice ProposeAnswer.Finished = tt
   single-proposed s choice (ProposeAnswer.Again ballot mark) = tt
   single-proposed s choice (ProposeAnswer.Vote mark) = omega arith
   single-proposed s choice (ProposeAnswer.Escalate cause) = tt
@@ -170,7 +175,7 @@ module _ (cluster : Cluster) (me : ℕ) (facts : List Fact) (volatile : Volatile
 
   single-voted : (vote : Vote) → IsSingle (voted_step (here cluster me facts) volatile vote)
   single-voted vote =
-      cond_both (is_heard facts vote.tx) (nothing_done volatile) _ IsSingle (λ e. tt) (λ e.
+      cond_both (is_settled facts vote.tx) (nothing_done volatile) _ IsSingle (λ e. tt) (λ e.
       cond_both (is_open volatile.manager vote.tx)
       (opened_step (here cluster me facts) volatile vote (Manager.would_decide cluster.quorums volatile.manager vote))
       (watched_step (here cluster me facts) volatile vote (Recover.would_decide cluster.quorums facts volatile.recovery vote))
@@ -180,12 +185,16 @@ module _ (cluster : Cluster) (me : ℕ) (facts : List Fact) (volatile : Volatile
 
   single-outcome : (tx : TxId) (outcome : Outcome) → IsSingle (outcome_step facts volatile tx outcome)
   single-outcome tx outcome =
-      cond_both (is_heard facts tx) None (Some (Fact.Heard tx outcome)) (λ (o : Option Fact). IsSingle (outcome_step_by volatile tx o)) (λ e. tt) (λ e. tt)
+      cond_both (is_settled facts tx) None (Some (Fact.Heard tx outcome)) (λ (o : Option Fact). IsSingle (outcome_step_by volatile tx o)) (λ e. tt) (λ e. tt)
 
-  single-asked : (s : ℕ) (tx : TxId) (key : Key) (version : ℕ) (o : Option Outcome) (vote : Option (Ballot × Mark)) → IsSingle (ask_step_by me volatile s tx key version o vote)
-  single-asked s tx key version (Some outcome) vote = tt
-  single-asked s tx key version None (Some vote) = tt
-  single-asked s tx key version None None = tt
+  single-asked : (s : ℕ) (tx : TxId) (key : Key) (version : ℕ) (o : Option Outcome) → IsSingle (ask_step_by me facts volatile s tx key version o)
+  single-asked s tx key version (Some outcome) = tt
+  single-asked s tx key version None =
+      cond_both (is_finished facts tx) (sending volatile (to_one me s (Message.Finished tx))) (ask_step_after me volatile s tx key version (vote_of facts key version tx)) IsSingle (λ e. tt) (λ e. by_vote (vote_of facts key version tx))
+    where
+      by_vote : (vote : Option (Ballot × Mark)) → IsSingle (ask_step_after me volatile s tx key version vote)
+      by_vote (Some vote) = tt
+      by_vote None = tt
 
   single-give : (give : Give) → IsSingle (sync_give_step facts volatile give)
   single-give give =
@@ -201,15 +210,17 @@ module _ (cluster : Cluster) (me : ℕ) (facts : List Fact) (volatile : Volatile
   single-message s (Message.Voted key version ballot tx mark) e =
       single-voted (record { from = s; key = key; version = version; ballot = ballot; tx = tx; mark = mark })
   single-message s (Message.Escalate key version tx cause) e = tt
-  single-message s (Message.Lead choice) e = single-lead s choice (heard_of facts choice.tx)
+  single-message s (Message.Lead choice) e = single-lead s choice (outcome_kept facts choice.tx)
   single-message s (Message.Prepare key version through ballot) e = single-prepared s key version ballot (on_prepare facts key version through ballot)
   single-message s (Message.Promise key version through ballot reported votes) e = single-led _
   single-message s (Message.Accept key version ballot options) e = absurd (cc)
   single-message s (Message.Refused key version ballot promised) e = tt
   single-message s (Message.Outcome tx outcome) e = single-outcome tx outcome
-  single-message s (Message.Ask tx key version) e = single-asked s tx key version (heard_of facts tx) (vote_of facts key version tx)
+  single-message s (Message.Ask tx key version) e = single-asked s tx key version (outcome_kept facts tx)
   single-message s (Message.SyncAsk key) e = tt
   single-message s (Message.SyncGive key version item adds) e = single-give (record { key = key; version = version; item = item; adds = adds })
+  single-message s (Message.Mark centre epoch seq) e = tt
+  single-message s (Message.Finished tx) e = tt
   single-message s (Message.ClientRead serial key) e = tt
   single-message s (Message.ClientBegin serial parts) e = tt
   single-message s (Message.ClientAnswer serial answer) e = tt
@@ -234,6 +245,8 @@ module _ (cluster : Cluster) (me : ℕ) (facts : List Fact) (volatile : Volatile
       by_message (Message.Ask tx key version) e = other (Message.Ask tx key version) refl
       by_message (Message.SyncAsk key) e = other (Message.SyncAsk key) refl
       by_message (Message.SyncGive key version item adds) e = other (Message.SyncGive key version item adds) refl
+      by_message (Message.Mark centre epoch seq) e = other (Message.Mark centre epoch seq) refl
+      by_message (Message.Finished tx) e = other (Message.Finished tx) refl
       by_message (Message.ClientRead serial key) e = other (Message.ClientRead serial key) refl
       by_message (Message.ClientBegin serial parts) e = other (Message.ClientBegin serial parts) refl
       by_message (Message.ClientAnswer serial answer) e = other (Message.ClientAnswer serial answer) refl
@@ -245,6 +258,7 @@ module _ (cluster : Cluster) (me : ℕ) (facts : List Fact) (volatile : Volatile
       (brief-message envelope.from envelope))
       (λ e. tt)
   brief-step Input.Tick = tt
+  brief-step Input.Sweep = tt
   brief-step (Input.Read key) = tt
   brief-step (Input.Begin parts) = brief 0 (begin_step_by (here cluster me facts) volatile parts (begin_with me (epoch_of facts) volatile.manager parts (begin_fault facts volatile.manager parts))).fact (single-begin parts (begin_fault facts volatile.manager parts))
 
@@ -312,6 +326,8 @@ sent-short e h = by_message e.message h.0.message h.1
     by_message (Message.Ask tx key version) w r = omega arith
     by_message (Message.SyncAsk key) w r = omega arith
     by_message (Message.SyncGive key version item adds) w r = omega arith
+    by_message (Message.Mark centre epoch seq) w r = omega arith
+    by_message (Message.Finished tx) w r = omega arith
     by_message (Message.ClientRead serial key) w r = omega arith
     by_message (Message.ClientBegin serial parts) w r = omega arith
     by_message (Message.ClientAnswer serial answer) w r = omega arith

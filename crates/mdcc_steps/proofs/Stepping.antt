@@ -11,18 +11,18 @@ use Rattle.mdcc_option.specs.declared.choices.Outcome.{Outcome}
 use Rattle.mdcc_option.specs.declared.cluster.Cluster.{Cluster}
 use Rattle.mdcc_option.specs.declared.faults.BeginFault.{BeginFault}
 use Rattle.mdcc_option.specs.declared.items.Part.{Part}
-use Rattle.mdcc_rules.specs.AcceptorRules.{ask_step_by}
-use Rattle.mdcc_ledger.specs.BootTest.{is_allowed_fact}
+use Rattle.mdcc_rules.specs.AcceptorRules.{ask_step_by, ask_step_after}
+use Rattle.mdcc_ledger.specs.BootTest.{is_allowed_fact, are_allowed_facts}
 use Rattle.mdcc_ledger.specs.AllowedFacts.{is_booted}
 use Rattle.mdcc_protocol.specs.Belongs.{adds_belong, ballot_belongs, fact_belongs, item_belongs, mark_belongs, message_belongs, options_belong, outcome_belongs, tx_belongs}
-use Rattle.mdcc_protocol.specs.Facts.{epoch_of, heard_of, vote_of}
+use Rattle.mdcc_protocol.specs.Facts.{epoch_of, vote_of, is_finished, outcome_kept}
 use Rattle.mdcc_protocol.specs.Leader.{claim_of_choice}
 use Rattle.mdcc_rules.specs.LeaderRules.{lead_step_after, led_of, step_of_led}
 use Rattle.mdcc_protocol.specs.Manager.{begin_with, begin_fault}
 use Rattle.mdcc_rules.specs.ManagerRules.{begin_step_by}
 use Rattle.mdcc_protocol.specs.News.{is_crowding}
 use Rattle.mdcc_rules.specs.Node.{checked, is_own_message, message_step, step_of}
-use Rattle.mdcc_rules.specs.Steps.{NodeStep, StepPart}
+use Rattle.mdcc_rules.specs.Steps.{NodeStep, StepPart, sending}
 use Rattle.mdcc_protocol.specs.Volatile.{Volatile}
 use Rattle.mdcc_messages.specs.WellFormed.{IsWellFormedMessage}
 use Rattle.mdcc_messages.specs.declared.facts.Fact.{Fact}
@@ -38,8 +38,9 @@ use Rattle.mdcc_steps.proofs.Counted.{HoldsOfInput, HoldsOfVote, votes-step}
 use Rattle.mdcc_steps.proofs.Proposing.{propose-allowed}
 use Rattle.mdcc_steps.proofs.Voting.{voted-allowed}
 use Rattle.mdcc_rules.specs.Here.{here}
+use Rattle.mdcc_rules.specs.Messages.{to_one}
 
-module _ (cluster : Cluster) (me : ℕ) (facts : List Fact) (volatile : Volatile) (booted : nat_lt 0 (epoch_of facts) ≡ true) (votes : AreVotesOf cluster volatile) where
+module _ (cluster : Cluster) (me : ℕ) (facts : List Fact) (volatile : Volatile) (turn : are_allowed_facts cluster facts ≡ true) (booted : nat_lt 0 (epoch_of facts) ≡ true) (votes : AreVotesOf cluster volatile) where
   abbrev pub IsFair : NodeStep → Type 0
   IsFair step = IsAllowedIf cluster facts step.fact
 
@@ -49,12 +50,18 @@ module _ (cluster : Cluster) (me : ℕ) (facts : List Fact) (volatile : Volatile
 
   fair-lead : (s : ℕ) (choice : Choice) (o : Option Outcome) → OnStep IsFair (lead_step_after (here cluster me facts) volatile s choice o)
   fair-lead s choice (Some outcome) = tt
-  fair-lead s choice None = fair-led (led_of (here cluster me facts) volatile (claim_of_choice choice))
+  fair-lead s choice None =
+      cond_both (is_finished facts choice.tx) (Ok (sending volatile (to_one me s (Message.Finished choice.tx)))) (step_of_led (led_of (here cluster me facts) volatile (claim_of_choice choice))) (OnStep IsFair)
+      (λ e. tt) (λ e. fair-led (led_of (here cluster me facts) volatile (claim_of_choice choice)))
 
-  fair-asked : (s : ℕ) (tx : TxId) (key : Key) (version : ℕ) (o : Option Outcome) (vote : Option (Ballot × Mark)) → IsFair (ask_step_by me volatile s tx key version o vote)
-  fair-asked s tx key version (Some outcome) vote = tt
-  fair-asked s tx key version None (Some vote) = tt
-  fair-asked s tx key version None None = tt
+  fair-asked : (s : ℕ) (tx : TxId) (key : Key) (version : ℕ) (o : Option Outcome) → IsFair (ask_step_by me facts volatile s tx key version o)
+  fair-asked s tx key version (Some outcome) = tt
+  fair-asked s tx key version None =
+      cond_both (is_finished facts tx) (sending volatile (to_one me s (Message.Finished tx))) (ask_step_after me volatile s tx key version (vote_of facts key version tx)) IsFair (λ e. tt) (λ e. by_vote (vote_of facts key version tx))
+    where
+      by_vote : (vote : Option (Ballot × Mark)) → IsFair (ask_step_after me volatile s tx key version vote)
+      by_vote (Some vote) = tt
+      by_vote None = tt
 
   fair-begin : (parts : List Part) (fault : Option (Key × BeginFault))
       → IsFair (begin_step_by (here cluster me facts) volatile parts (begin_with me (epoch_of facts) volatile.manager parts fault))
@@ -69,7 +76,7 @@ module _ (cluster : Cluster) (me : ℕ) (facts : List Fact) (volatile : Volatile
       voted-allowed cluster me facts volatile (record { from = s; key = key; version = version; ballot = ballot; tx = tx; mark = mark }) booted votes
       (and_parts (ballot_belongs cluster ballot) (tx_belongs cluster tx) parts.0).1 parts.1
   fair-message s (Message.Escalate key version tx cause) h w = tt
-  fair-message s (Message.Lead choice) h w = fair-lead s choice (heard_of facts choice.tx)
+  fair-message s (Message.Lead choice) h w = fair-lead s choice (outcome_kept facts choice.tx)
   fair-message s (Message.Prepare key version through ballot) h w =
       prepare-allowed cluster me facts volatile s key version through ballot booted h w.classic w.not_below
   fair-message s (Message.Promise key version through ballot reported votes) h w = fair-led _
@@ -80,11 +87,13 @@ module _ (cluster : Cluster) (me : ℕ) (facts : List Fact) (volatile : Volatile
   fair-message s (Message.Outcome tx outcome) h w =
       let parts = and_parts (tx_belongs cluster tx) (outcome_belongs cluster outcome) h in
       outcome-allowed cluster facts volatile tx outcome booted parts.0 parts.1
-  fair-message s (Message.Ask tx key version) h w = fair-asked s tx key version (heard_of facts tx) (vote_of facts key version tx)
+  fair-message s (Message.Ask tx key version) h w = fair-asked s tx key version (outcome_kept facts tx)
   fair-message s (Message.SyncAsk key) h w = tt
   fair-message s (Message.SyncGive key version item adds) h w =
       let parts = and_parts (item_belongs cluster item) (adds_belong cluster adds) h in
       give-allowed cluster facts volatile (record { key = key; version = version; item = item; adds = adds }) booted parts.0 parts.1
+  fair-message s (Message.Mark centre epoch seq) h w = tt
+  fair-message s (Message.Finished tx) h w = tt
   fair-message s (Message.ClientRead serial key) h w = tt
   fair-message s (Message.ClientBegin serial parts) h w = tt
   fair-message s (Message.ClientAnswer serial answer) h w = tt
@@ -105,6 +114,7 @@ module _ (cluster : Cluster) (me : ℕ) (facts : List Fact) (volatile : Volatile
       (fair-message envelope.from envelope.message (and_parts _ _ e).1 w.message))
       (λ e. tt)
   step-allowed Input.Tick w = λ fact e. absurd (cc)
+  step-allowed Input.Sweep w = λ fact e. absurd (cc)
   step-allowed (Input.Read key) w = λ fact e. absurd (cc)
   step-allowed (Input.Begin parts) w = allowed-room _ (fair-begin parts (begin_fault facts volatile.manager parts)) (begun-room parts (begin_fault facts volatile.manager parts))
     where
@@ -130,6 +140,8 @@ vote-of cluster s (Message.Outcome tx outcome) h = tt
 vote-of cluster s (Message.Ask tx key version) h = tt
 vote-of cluster s (Message.SyncAsk key) h = tt
 vote-of cluster s (Message.SyncGive key version item adds) h = tt
+vote-of cluster s (Message.Mark centre epoch seq) h = tt
+vote-of cluster s (Message.Finished tx) h = tt
 vote-of cluster s (Message.ClientRead serial key) h = tt
 vote-of cluster s (Message.ClientBegin serial parts) h = tt
 vote-of cluster s (Message.ClientAnswer serial answer) h = tt
@@ -137,6 +149,7 @@ vote-of cluster s (Message.ClientAnswer serial answer) h = tt
 vote-told : (cluster : Cluster) (me : ℕ) (facts : List Fact) (input : Input) → HoldsOfInput (IsVoteOf cluster) cluster me facts input
 vote-told cluster me facts (Input.Message envelope) = vote-of cluster envelope.from envelope.message
 vote-told cluster me facts Input.Tick = tt
+vote-told cluster me facts Input.Sweep = tt
 vote-told cluster me facts (Input.Read key) = tt
 vote-told cluster me facts (Input.Begin parts) = tt
 
@@ -154,13 +167,14 @@ booted-more facts (Fact.Booted epoch) h some = lt-ltb 0 epoch (some epoch refl)
 booted-more facts (Fact.Promised key low high ballot) h some = h
 booted-more facts (Fact.Voted key version ballot options offered) h some = h
 booted-more facts (Fact.Heard tx outcome) h some = h
+booted-more facts (Fact.Floor origin era upto) h some = h
 booted-more facts (Fact.Adopted key version item adds) h some = h
 
 pub made-allowed : (cluster : Cluster) (me : ℕ) (facts : List Fact) (volatile : Volatile) (input : Input) (step : NodeStep) (fact : Fact)
-    → nat_lt 0 (epoch_of facts) ≡ true → AreVotesOf cluster volatile → IsWellFormedInput input
+    → are_allowed_facts cluster facts ≡ true → nat_lt 0 (epoch_of facts) ≡ true → AreVotesOf cluster volatile → IsWellFormedInput input
     → step_of (here cluster me facts) volatile input ≡ Ok step → step.fact ≡ Some fact → is_allowed_fact cluster facts fact ≡ true
-made-allowed cluster me facts volatile input step fact booted votes w made is =
-    on_made (IsAllowedAfter cluster me facts volatile booted votes) _ step (step-allowed cluster me facts volatile booted votes input w) made fact is
+made-allowed cluster me facts volatile input step fact turn booted votes w made is =
+    on_made (IsAllowedAfter cluster me facts volatile turn booted votes) _ step (step-allowed cluster me facts volatile turn booted votes input w) made fact is
 
 -- an epoch that is allowed is not 0
 pub some_epoch : (cluster : Cluster) (facts : List Fact) (fact : Fact) → is_allowed_fact cluster facts fact ≡ true → (epoch : ℕ) → fact ≡ Fact.Booted epoch → 0 < epoch

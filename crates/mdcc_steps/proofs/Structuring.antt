@@ -1,5 +1,5 @@
 -- The structures that a leader makes are well-formed.
-use Rattle.std.proofs.Common.{◌≡◌, ℕ, ◌+◌, ◌^◌, ◌&&◌, ◌==◌, ◌<◌, ◌≤◌, Bool, true, false, cond, List, [], ◌∷◌, length, refl, sym, inl, inr, subst, Option, Some, None, is_some, filter, filter_map, fold, not, nat_le, nat_lt, arith}
+use Rattle.std.proofs.Common.{◌≡◌, ℕ, ◌+◌, ◌^◌, ◌&&◌, ◌==◌, ◌<◌, ◌≤◌, Bool, true, false, cond, List, [], ◌∷◌, length, refl, sym, inl, inr, subst, Option, Some, None, is_some, filter, filter_map, fold, not, nat_le, nat_lt, arith, ◌||◌}
 use Rattle.std.specs.List.{AllByRecursion}
 use Rattle.std.specs.Option.{option_or}
 use Rattle.std.specs.Prelude.{option_map}
@@ -20,7 +20,7 @@ use Rattle.mdcc_struct.specs.Maps.{TxMap, are_ascending, inserted, union, value_
 use Rattle.mdcc_struct.specs.declared.options.Options.{Options}
 use Rattle.mdcc_struct.specs.declared.report.Report.{Report}
 use Rattle.mdcc_struct.proofs.Walks.{ascending-picked, ascending-union, ascending-with_entry}
-use Rattle.mdcc_protocol.specs.Facts.{current_of}
+use Rattle.mdcc_protocol.specs.Facts.{current_of, is_settled}
 use Rattle.mdcc_protocol.specs.Fit.{is_fitting}
 use Rattle.mdcc_protocol.specs.Marks.{accepts_in, choice_in, is_accept, rejects_in}
 use Rattle.mdcc_protocol.specs.Structures.{accept_room, all_claims, choices_reported, claims_reported, first_structure, fit_at_leader, is_accepted, is_crowded, is_left_out, mark_of_choice, reject_room, with_choice, with_claim}
@@ -51,7 +51,7 @@ pub claimed-marks : (cluster : Cluster) (facts : List Fact) (key : Key) (version
     → IsWellFormedClaim key version e.0 e.1 → AreMarks key version (with_claim cluster facts key version options e)
 claimed-marks cluster facts key version options (tx, o) h w =
     let mark = mark_of_choice cluster facts key version options o in
-    cond_both (is_some (value_of options tx)) options (cond (is_left_out options mark) options (with_entry options (tx, mark))) (AreMarks key version) (λ e. h)
+    cond_both (is_some (value_of options tx) || is_settled facts tx) options (cond (is_left_out options mark) options (with_entry options (tx, mark))) (AreMarks key version) (λ e. h)
     (λ e. cond_both (is_left_out options mark) options (with_entry options (tx, mark)) (AreMarks key version) (λ f. h)
     (λ f. (
       each-with_entry (λ (e : TxId × Mark). IsWellFormedEntry key version e.0 e.1) options (tx, mark) h.0 (mark-formed cluster facts key version options tx o w),
@@ -143,7 +143,7 @@ claimed-room : (cluster : Cluster) (facts : List Fact) (key : Key) (version : �
     → is_crowded (with_claim cluster facts key version options e) ≡ false
 claimed-room cluster facts key version options (tx, o) h =
     let mark = mark_of_choice cluster facts key version options o in
-    cond_both (is_some (value_of options tx)) options (cond (is_left_out options mark) options (with_entry options (tx, mark))) (λ (m : Options). is_crowded m ≡ false) (λ e. h)
+    cond_both (is_some (value_of options tx) || is_settled facts tx) options (cond (is_left_out options mark) options (with_entry options (tx, mark))) (λ (m : Options). is_crowded m ≡ false) (λ e. h)
     (λ e. cond_both (is_left_out options mark) options (with_entry options (tx, mark)) (λ (m : Options). is_crowded m ≡ false) (λ f. h)
     (λ f. marked-room options tx mark h (accepted-room cluster facts key version options o) f))
 

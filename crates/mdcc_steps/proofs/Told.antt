@@ -21,7 +21,7 @@ use Rattle.mdcc_option.specs.declared.items.Update.{Update}
 use Rattle.mdcc_struct.specs.Maps.{TxMap, are_ascending, value_of}
 use Rattle.mdcc_struct.specs.declared.options.Options.{Options}
 use Rattle.mdcc_struct.proofs.Walks.{ascending-union}
-use Rattle.mdcc_protocol.specs.Facts.{amounts_added, ballot_promised, base_at, base_from, base_given, base_of, current_of, delta_given, deltas_at, deltas_from, heard_of, is_heard, item_written, later_vote, mark_voted, marks_voted, outcome_in, promise_of, unresolved_of, version_from, version_given, vote_of, votes_of, write_set_in, write_sets_from, write_sets_of}
+use Rattle.mdcc_protocol.specs.Facts.{amounts_added, ballot_promised, base_at, base_from, base_given, base_of, current_of, delta_given, deltas_at, deltas_from, heard_of, item_written, later_vote, mark_voted, marks_voted, outcome_in, promise_of, unresolved_of, version_from, version_given, vote_of, votes_of, write_set_in, write_sets_from, write_sets_of, is_forgotten, is_idle, is_settled, last_vote, outcome_kept}
 use Rattle.mdcc_protocol.specs.Marks.{Amounts, is_write}
 use Rattle.mdcc_messages.specs.WellFormed.{IsWellFormedFact}
 use Rattle.mdcc_messages.specs.WellFormedParts.{IsWellFormedAmounts, IsWellFormedBallot, IsWellFormedDelta, IsWellFormedEntry, IsWellFormedHeard, IsWellFormedItem, IsWellFormedOf, IsWellFormedTx, IsWellFormedUpdate, IsWellFormedWriteSet}
@@ -35,6 +35,7 @@ heard-here : (tx : TxId) (fact : Fact) → IsWellFormedFact fact → HoldsIn (Is
 heard-here tx (Fact.Heard other outcome) w =
     cond_both (tx_eq other tx) (Some outcome) None (HoldsIn (IsWellFormedHeard tx)) (λ e. subst (λ t. IsWellFormedHeard t outcome) ((Decides-tx other tx).0 e) w) (λ e. tt)
 heard-here tx (Fact.Booted epoch) w = tt
+heard-here tx (Fact.Floor origin era upto) w = tt
 heard-here tx (Fact.Promised key low high ballot) w = tt
 heard-here tx (Fact.Voted key version ballot options offered) w = tt
 heard-here tx (Fact.Adopted key version item adds) w = tt
@@ -42,6 +43,9 @@ heard-here tx (Fact.Adopted key version item adds) w = tt
 pub heard-told : (facts : List Fact) (tx : TxId) → AllByRecursion IsWellFormedFact facts → HoldsIn (IsWellFormedHeard tx) (heard_of facts tx)
 heard-told [] tx w = tt
 heard-told (fact ∷ facts) tx w = holds-or (IsWellFormedHeard tx) (heard_of facts tx) (outcome_in tx fact) (heard-told facts tx w.1) (heard-here tx fact w.0)
+
+pub kept-told : (facts : List Fact) (tx : TxId) → AllByRecursion IsWellFormedFact facts → HoldsIn (IsWellFormedHeard tx) (outcome_kept facts tx)
+kept-told facts tx w = cond_both (is_idle facts tx) None (heard_of facts tx) (HoldsIn (IsWellFormedHeard tx)) (λ e. tt) (λ e. heard-told facts tx w)
 
 -- ---- votes
 
@@ -71,14 +75,19 @@ vote-here key version tx (Fact.Voted key' version' ballot options offered) w =
     holds-vote None h = tt
     holds-vote (Some mark) h = (w.ballot_itself, h)
 vote-here key version tx (Fact.Booted epoch) w = tt
+vote-here key version tx (Fact.Floor origin era upto) w = tt
 vote-here key version tx (Fact.Promised key' low high ballot) w = tt
 vote-here key version tx (Fact.Heard other outcome) w = tt
 vote-here key version tx (Fact.Adopted key' version' item adds) w = tt
 
+last-told : (facts : List Fact) (key : Key) (version : ℕ) (tx : TxId) → AllByRecursion IsWellFormedFact facts → HoldsIn (IsWellFormedVoteAt key version tx) (last_vote facts key version tx)
+last-told [] key version tx w = tt
+last-told (fact ∷ facts) key version tx w =
+    holds-later (IsWellFormedVoteAt key version tx) (last_vote facts key version tx) (mark_voted key version tx fact) (last-told facts key version tx w.1) (vote-here key version tx fact w.0)
+
 pub vote-told : (facts : List Fact) (key : Key) (version : ℕ) (tx : TxId) → AllByRecursion IsWellFormedFact facts → HoldsIn (IsWellFormedVoteAt key version tx) (vote_of facts key version tx)
-vote-told [] key version tx w = tt
-vote-told (fact ∷ facts) key version tx w =
-    holds-later (IsWellFormedVoteAt key version tx) (vote_of facts key version tx) (mark_voted key version tx fact) (vote-told facts key version tx w.1) (vote-here key version tx fact w.0)
+vote-told facts key version tx w =
+    cond_both (is_forgotten facts key version tx) None (last_vote facts key version tx) (HoldsIn (IsWellFormedVoteAt key version tx)) (λ e. tt) (λ e. last-told facts key version tx w)
 
 -- ---- promises
 
@@ -91,6 +100,7 @@ promise-here key version (Fact.Promised key' low high ballot) w =
 promise-here key version (Fact.Voted key' version' ballot options offered) w =
     cond_both (version' == version && key_eq key' key) ballot fast_ballot IsWellFormedBallot (λ e. w.ballot_itself) (λ e. inl refl)
 promise-here key version (Fact.Booted epoch) w = inl refl
+promise-here key version (Fact.Floor origin era upto) w = inl refl
 promise-here key version (Fact.Heard tx outcome) w = inl refl
 promise-here key version (Fact.Adopted key' version' item adds) w = inl refl
 
@@ -115,6 +125,7 @@ version-here key (Fact.Heard tx (Outcome.Commit choices)) w = versions-fit key c
 version-here key (Fact.Heard tx Outcome.Abort) w = omega arith
 version-here key (Fact.Adopted key' version item adds) w = cond_both (key_eq key' key) version 0 (λ v. v < 2 ^ 64) (λ e. w.instance.version_fits) (λ e. omega arith)
 version-here key (Fact.Booted epoch) w = omega arith
+version-here key (Fact.Floor origin era upto) w = omega arith
 version-here key (Fact.Promised key' low high ballot) w = omega arith
 version-here key (Fact.Voted key' version ballot options offered) w = omega arith
 
@@ -145,6 +156,7 @@ base-here key version (Fact.Heard tx Outcome.Abort) w = tt
 base-here key version (Fact.Adopted key' version' item adds) w =
     cond_both (version' == version && key_eq key' key) (Some item) None (HoldsIn IsWellFormedItem) (λ e. w.base) (λ e. tt)
 base-here key version (Fact.Booted epoch) w = tt
+base-here key version (Fact.Floor origin era upto) w = tt
 base-here key version (Fact.Promised key' low high ballot) w = tt
 base-here key version (Fact.Voted key' version' ballot options offered) w = tt
 
@@ -188,6 +200,7 @@ deltas-here key version (Fact.Adopted key' version' item adds) w =
     (λ e. each-map IsWellFormedDeltaAt (λ (delta : Delta). (delta.tx, delta.amounts)) adds (each-weaker IsWellFormedDelta (λ delta. IsWellFormedTx delta.tx × IsWellFormedAmounts delta.amounts) adds (λ delta h. (h.tx, h.amounts)) w.each))
     (λ e. tt)
 deltas-here key version (Fact.Booted epoch) w = tt
+deltas-here key version (Fact.Floor origin era upto) w = tt
 deltas-here key version (Fact.Promised key' low high ballot) w = tt
 deltas-here key version (Fact.Voted key' version' ballot options offered) w = tt
 
@@ -217,6 +230,7 @@ sets-here (Fact.Voted key version ballot options (Some choice)) w =
     (each-filter_map (λ e. IsWellFormedEntry key version e.0 e.1) IsWellFormedSetAt write_set_in options (set-in key version) w.options_itself.each)
     ((w.offered_itself.choice_itself.tx, w.offered_itself.choice_itself.write_set), tt)
 sets-here (Fact.Booted epoch) w = tt
+sets-here (Fact.Floor origin era upto) w = tt
 sets-here (Fact.Promised key low high ballot) w = tt
 sets-here (Fact.Heard tx outcome) w = tt
 sets-here (Fact.Adopted key version item adds) w = tt
@@ -226,7 +240,7 @@ sets-told [] w = tt
 sets-told (fact ∷ facts) w = each-union IsWellFormedSetAt (write_sets_of facts) (write_sets_from fact) (sets-told facts w.1) (sets-here fact w.0)
 
 pub unresolved-told : (facts : List Fact) → AllByRecursion IsWellFormedFact facts → AllByRecursion IsWellFormedSetAt (unresolved_of facts)
-unresolved-told facts w = each-kept IsWellFormedSetAt (λ e. not (is_heard facts e.0)) (write_sets_of facts) (sets-told facts w)
+unresolved-told facts w = each-kept IsWellFormedSetAt (λ e. not (is_settled facts e.0)) (write_sets_of facts) (sets-told facts w)
 
 -- ---- marks at one ballot
 
@@ -243,6 +257,7 @@ marks-here key version ballot (Fact.Voted key' version' ballot' options offered)
         subst (λ k. AllByRecursion (λ (e : TxId × Mark). IsWellFormedEntry k version e.0 e.1) options) ((Decides-key key' key).0 parts.1)
         (subst (λ v. AllByRecursion (λ (e : TxId × Mark). IsWellFormedEntry key' v e.0 e.1) options) (eqb-true version' version first.0) h)
 marks-here key version ballot (Fact.Booted epoch) w = tt
+marks-here key version ballot (Fact.Floor origin era upto) w = tt
 marks-here key version ballot (Fact.Promised key' low high ballot') w = tt
 marks-here key version ballot (Fact.Heard tx outcome) w = tt
 marks-here key version ballot (Fact.Adopted key' version' item adds) w = tt

@@ -5,7 +5,7 @@ use Rattle.mdcc_base.specs.declared.identifiers.TxId.{TxId}
 use Rattle.mdcc_option.specs.declared.choices.Outcome.{Outcome}
 use Rattle.mdcc_option.specs.declared.cluster.Cluster.{Cluster}
 use Rattle.mdcc_protocol.specs.Belongs.{tx_belongs}
-use Rattle.mdcc_protocol.specs.Facts.{epoch_of, is_heard}
+use Rattle.mdcc_protocol.specs.Facts.{epoch_of, is_settled}
 use Rattle.mdcc_protocol.specs.Manager
 use Rattle.mdcc_rules.specs.ManagerRules.{opened_step, undecided_step, voted_step, watched_step}
 use Rattle.mdcc_protocol.specs.Recover
@@ -24,14 +24,14 @@ module _ (cluster : Cluster) (me : ℕ) (facts : List Fact) (volatile : Volatile
   undecided-allowed : IsAllowedIf cluster facts (undecided_step (here cluster me facts) volatile vote).fact
   undecided-allowed = tt
 
-  open-allowed : (o : Option Outcome) → Manager.would_decide cluster.quorums volatile.manager vote ≡ o → is_heard facts vote.tx ≡ false → is_open volatile.manager vote.tx ≡ true
+  open-allowed : (o : Option Outcome) → Manager.would_decide cluster.quorums volatile.manager vote ≡ o → is_settled facts vote.tx ≡ false → is_open volatile.manager vote.tx ≡ true
       → IsAllowedIf cluster facts (opened_step (here cluster me facts) volatile vote o).fact
   open-allowed None e unheard open_here = undecided-allowed
   open-allowed (Some outcome) e unheard open_here =
       let d = open-decided (IsVoteOf cluster) cluster.quorums volatile.manager vote outcome votes.manager of_mark open_here e in
       heard-allowed cluster facts vote.tx outcome booted of_tx (decided-belongs cluster cluster.quorums vote.tx _ outcome d.by) unheard
 
-  watched-allowed : (o : Option (TxId × Outcome)) → Recover.would_decide cluster.quorums facts volatile.recovery vote ≡ o → is_heard facts vote.tx ≡ false
+  watched-allowed : (o : Option (TxId × Outcome)) → Recover.would_decide cluster.quorums facts volatile.recovery vote ≡ o → is_settled facts vote.tx ≡ false
       → IsAllowedIf cluster facts (watched_step (here cluster me facts) volatile vote o).fact
   watched-allowed None e unheard = tt
   watched-allowed (Some decided) e unheard =
@@ -40,7 +40,7 @@ module _ (cluster : Cluster) (me : ℕ) (facts : List Fact) (volatile : Volatile
 
   pub voted-allowed : IsAllowedIf cluster facts (voted_step (here cluster me facts) volatile vote).fact
   voted-allowed =
-      cond_both (is_heard facts vote.tx) (nothing_done volatile) _ (λ (step : NodeStep). IsAllowedIf cluster facts step.fact) (λ e. tt) (λ e.
+      cond_both (is_settled facts vote.tx) (nothing_done volatile) _ (λ (step : NodeStep). IsAllowedIf cluster facts step.fact) (λ e. tt) (λ e.
       cond_both (is_open volatile.manager vote.tx)
       (opened_step (here cluster me facts) volatile vote (Manager.would_decide cluster.quorums volatile.manager vote))
       (watched_step (here cluster me facts) volatile vote (Recover.would_decide cluster.quorums facts volatile.recovery vote))

@@ -27,10 +27,11 @@ pub record AreVotesOf (cluster : Cluster) (volatile : Volatile) : Type 0 where
 abbrev pub IsBooted : List Fact → Type 0
 IsBooted facts = IsTrue (nat_lt 0 (epoch_of facts))
 
--- what a step of a booted node adds is allowed after its facts
+-- what a step of a booted node adds is allowed after its facts, where those were allowed in turn
 abbrev pub AddedFactIsAllowed : Type 0
 AddedFactIsAllowed =
     (cluster : Cluster) (me : ℕ) (facts : List Fact) (volatile : Volatile) (input : Input) (step : NodeStep) (fact : Fact)
+    → IsTrue (are_allowed_facts cluster facts)
     → IsBooted facts → AreVotesOf cluster volatile → IsWellFormedInput input
     → step_of (here cluster me facts) volatile input ≡ Ok step → step.fact ≡ Some fact
     → IsTrue (is_allowed_fact cluster facts fact)
@@ -48,6 +49,7 @@ FactsStayAllowed =
 abbrev pub NodeStaysBooted : Type 0
 NodeStaysBooted =
     (cluster : Cluster) (me : ℕ) (facts : List Fact) (volatile : Volatile) (input : Input) (step : NodeStep) (fact : Fact)
+    → IsTrue (are_allowed_facts cluster facts)
     → IsBooted facts → AreVotesOf cluster volatile → IsWellFormedInput input
     → step_of (here cluster me facts) volatile input ≡ Ok step → step.fact ≡ Some fact
     → IsBooted (fact ∷ facts)

@@ -19,5 +19,6 @@ pub record AreWellFormedParts (parts : List Part) : Type 0 where
 abbrev pub IsWellFormedInput : Input → Type 0
 IsWellFormedInput (Input.Message envelope) = IsWellFormedEnvelope envelope
 IsWellFormedInput Input.Tick = ⊤
+IsWellFormedInput Input.Sweep = ⊤
 IsWellFormedInput (Input.Read key) = IsKey key
 IsWellFormedInput (Input.Begin parts) = AreWellFormedParts parts

@@ -1,13 +1,13 @@
 -- What a node adds, keeps and sends is well-formed.
 use Rattle.std.specs.List.{AllByRecursion}
-use Rattle.std.specs.Prelude.{IsTrue, List, Ok, Option, Some, [], ℕ, ◌+◌, ◌++◌, ◌∷◌, ◌≡◌, ◌≤◌, ◌<◌, ◌^◌}
+use Rattle.std.specs.Prelude.{IsTrue, List, Ok, Option, Some, [], ℕ, ◌+◌, ◌++◌, ◌∷◌, ◌≡◌, ◌≤◌, ◌<◌, ◌^◌, ⊤}
 use Rattle.mdcc_option.specs.declared.cluster.Cluster.{Cluster}
 use Rattle.mdcc_ledger.specs.BootTest.{are_allowed_facts}
 use Rattle.mdcc_protocol.specs.Belongs.{is_centre}
 use Rattle.mdcc_rules.specs.Boot.{boot_of, booted_by}
 use Rattle.mdcc_protocol.specs.IsCluster.{IsCluster}
 use Rattle.mdcc_base.specs.Counts.{sum_over}
-use Rattle.mdcc_messages.specs.Lengths.{body_length, cells_used, fact_length, log_length}
+use Rattle.mdcc_messages.specs.Lengths.{body_length, cells_used, fact_length, log_length, cells_needed}
 use Rattle.mdcc_rules.specs.Node.{message_step, step_of}
 use Rattle.mdcc_rules.specs.Steps.{NodeStep, with_new}
 use Rattle.mdcc_protocol.specs.Volatile.{Volatile, initial_volatile}
@@ -19,6 +19,7 @@ use Rattle.mdcc_steps.specs.AddedFacts.{AreVotesOf}
 use Rattle.mdcc_steps.specs.Inputs.{IsWellFormedInput}
 use Rattle.mdcc_steps.specs.WellFormedVolatile.{AreNodeFacts, IsWellFormedVolatile}
 use Rattle.mdcc_rules.specs.Here.{here}
+use Rattle.mdcc_protocol.specs.Cells.{cells_held}
 
 -- what holds of a node at every moment
 pub record IsNode (cluster : Cluster) (me : ℕ) (facts : List Fact) (volatile : Volatile) : Type 0 where
@@ -64,13 +65,18 @@ NodeStays =
     → step_of (here cluster me facts) volatile input ≡ Ok step
     → IsNode cluster me (with_new facts step.fact) step.after
 
--- the facts stay within the cells of the cluster
+-- each fact had room when it was added: what the facts before it held then, and what it needs, lie in the cells of the cluster
+abbrev pub FitInTurn : Cluster → List Fact → Type 0
+FitInTurn cluster [] = ⊤
+FitInTurn cluster (fact ∷ facts) = FitInTurn cluster facts × (cells_held facts + cells_needed fact ≤ cluster.cells)
+
+-- it stays so
 abbrev pub RoomStays : Type 0
 RoomStays =
     (cluster : Cluster) (me : ℕ) (facts : List Fact) (volatile : Volatile) (input : Input) (step : NodeStep)
-    → cells_used facts ≤ cluster.cells
+    → FitInTurn cluster facts
     → step_of (here cluster me facts) volatile input ≡ Ok step
-    → cells_used (with_new facts step.fact) ≤ cluster.cells
+    → FitInTurn cluster (with_new facts step.fact)
 
 -- a node is one after a boot from well-formed facts
 abbrev pub BootGivesNode : Type 0
@@ -81,24 +87,24 @@ BootGivesNode =
     → boot_of cluster payloads ≡ Ok facts
     → IsNode cluster me facts initial_volatile
 
--- and its facts lie within the cells
+-- and its facts had room in turn
 abbrev pub BootKeepsRoom : Type 0
 BootKeepsRoom =
     (cluster : Cluster) (payloads : List (Option Fact)) (facts : List Fact)
     → boot_of cluster payloads ≡ Ok facts
-    → cells_used facts ≤ cluster.cells
+    → FitInTurn cluster facts
 
 -- facts as payloads of a log, the oldest first
 abbrev pub payloads_of : List Fact → List (Option Fact)
 payloads_of [] = []
 payloads_of (fact ∷ facts) = payloads_of facts ++ Some fact ∷ []
 
--- facts that are allowed in turn, and lie in the cells, are what a boot reads from their payloads
+-- facts that are allowed and had room in turn are what a boot reads from their payloads
 abbrev pub BootReadsFacts : Type 0
 BootReadsFacts =
     (cluster : Cluster) (facts : List Fact)
     → IsTrue (are_allowed_facts cluster facts)
-    → cells_used facts ≤ cluster.cells
+    → FitInTurn cluster facts
     → boot_of cluster (payloads_of facts) ≡ booted_by cluster (Ok facts)
 
 -- the bytes of an Accept, and 0 of any other message

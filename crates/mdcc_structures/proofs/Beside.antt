@@ -22,11 +22,11 @@ use Rattle.mdcc_messages.specs.declared.facts.Fact.{Fact}
 use Rattle.mdcc_protocol.specs.Facts.{current_of, deltas_at, deltas_from, executed_of, is_void, live_mark}
 use Rattle.mdcc_protocol.specs.Fit.{capped, load_of}
 use Rattle.mdcc_protocol.specs.Marks.{Amounts, choice_in}
-use Rattle.mdcc_protocol.specs.Structures.{live_at_leader, live_forced}
+use Rattle.mdcc_protocol.specs.Structures.{live_at_leader}
 use Rattle.mdcc_protocol.specs.declared.fit.Load.{Load}
 use Rattle.mdcc_escrow.specs.Weights.{no_load, with_live}
 use Rattle.mdcc_escrow.proofs.Weighing.{load_more, load_summed}
-use Rattle.mdcc_structures.specs.Live.{IsWeighed, has_accept, with_delta, with_update}
+use Rattle.mdcc_structures.specs.Live.{IsWeighed, has_accept, live_marks, with_delta, with_update}
 use Rattle.mdcc_structures.proofs.Sums.{HaveSameSums, is_new, same_load, size_if, sum_over-append, sum_over-filter, sum_over-same, sum_over-union}
 
 -- ---- accepted marks
@@ -157,7 +157,7 @@ parts_sum facts options d up g =
     whole ∙ ap₂ ◌+◌ (sym left) right ∙ sym (sum_over-append g (filter p a) (filter (counts facts options) d))
 
 pub load_beside : (facts : List Fact) (key : Key) (options : Options) → are_ascending options ≡ true
-    → fold (with_delta facts key options) (capped (load_of (live_forced facts options) [])) (txs_of (executed_of facts key))
+    → fold (with_delta facts key options) (capped (load_of (live_marks facts options) [])) (txs_of (executed_of facts key))
     ≡ capped (load_of (live_at_leader facts key (current_of facts key) options) [])
 load_beside facts key options up =
     let d = executed_of facts key in

@@ -4,3 +4,4 @@ pub mod Gathered
 pub mod Marks
 pub mod Sums
 pub mod Unseen
+pub mod Void

@@ -16,9 +16,10 @@ use Rattle.mdcc_struct.proofs.Walks.{drop-get}
 use Rattle.mdcc_messages.specs.declared.facts.Fact.{Fact}
 use Rattle.mdcc_protocol.specs.Facts.{is_void}
 use Rattle.mdcc_protocol.specs.Marks.{Amounts}
-use Rattle.mdcc_protocol.specs.Structures.{live_forced, with_choice}
+use Rattle.mdcc_protocol.specs.Structures.{with_choice}
 use Rattle.mdcc_protocol.specs.declared.fit.Load.{Load}
 use Rattle.mdcc_escrow.specs.Weights.{with_live}
+use Rattle.mdcc_structures.specs.Live.{live_marks}
 use Rattle.mdcc_structures.specs.Marked.{claims_of}
 
 pub any-here : {X : Type 0} (p : X → Bool) (xs : List X) (i : ℕ) (x : X) → slice_get xs i ≡ Some x → p x ≡ true → list_any p (drop i xs) ≡ true
@@ -35,22 +36,22 @@ fold-end f a xs i past = ap (fold f a) (drop_all i xs past)
 
 -- ---- what is live of marks
 
-forced_first : (facts : List Fact) (x : TxId × Mark) (xs : Options) → live_forced facts (x ∷ xs) ≡ live_forced facts (x ∷ []) ++ live_forced facts xs
-forced_first facts (tx, Mark.Accept choice) xs = elim (cases_Bool (is_void facts tx)) [
+marked_first : (facts : List Fact) (x : TxId × Mark) (xs : Options) → live_marks facts (x ∷ xs) ≡ live_marks facts (x ∷ []) ++ live_marks facts xs
+marked_first facts (tx, Mark.Accept choice) xs = elim (cases_Bool (is_void facts tx)) [
   | inl void ↦ rw void refl
   | inr live ↦ rw live refl
 ]
-forced_first facts (tx, Mark.Reject) xs = refl
+marked_first facts (tx, Mark.Reject) xs = refl
 
-pub forced_next : (facts : List Fact) (load : Load) (m : Options) (i : ℕ) (x : TxId × Mark) → slice_get m i ≡ Some x
-    → fold (with_live []) load (live_forced facts (drop i m)) ≡ fold (with_live []) (fold (with_live []) load (live_forced facts (x ∷ []))) (live_forced facts (drop (i + 1) m))
-forced_next facts load m i x at =
-    ap (λ n. fold (with_live []) load (live_forced facts n)) (drop-get m i x at)
-    ∙ ap (fold (with_live []) load) (forced_first facts x (drop (i + 1) m))
-    ∙ fold-append (with_live []) load (live_forced facts (x ∷ [])) (live_forced facts (drop (i + 1) m))
+pub marked_next : (facts : List Fact) (load : Load) (m : Options) (i : ℕ) (x : TxId × Mark) → slice_get m i ≡ Some x
+    → fold (with_live []) load (live_marks facts (drop i m)) ≡ fold (with_live []) (fold (with_live []) load (live_marks facts (x ∷ []))) (live_marks facts (drop (i + 1) m))
+marked_next facts load m i x at =
+    ap (λ n. fold (with_live []) load (live_marks facts n)) (drop-get m i x at)
+    ∙ ap (fold (with_live []) load) (marked_first facts x (drop (i + 1) m))
+    ∙ fold-append (with_live []) load (live_marks facts (x ∷ [])) (live_marks facts (drop (i + 1) m))
 
-pub forced_end : (facts : List Fact) (load : Load) (m : Options) (i : ℕ) → length m ≤ i → fold (with_live []) load (live_forced facts (drop i m)) ≡ load
-forced_end facts load m i past = ap (λ n. fold (with_live []) load (live_forced facts n)) (drop_all i m past)
+pub marked_end : (facts : List Fact) (load : Load) (m : Options) (i : ℕ) → length m ≤ i → fold (with_live []) load (live_marks facts (drop i m)) ≡ load
+marked_end facts load m i past = ap (λ n. fold (with_live []) load (live_marks facts n)) (drop_all i m past)
 
 -- ---- what marks claim
 

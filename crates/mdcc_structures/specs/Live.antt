@@ -1,12 +1,12 @@
 -- What is live beside a structure at a leader, one choice after the other.
-use Rattle.std.specs.Prelude.{Bool, List, None, Option, Some, [], if◌then◌else◌, is_some, not, option_and_then, ℕ, ◌&&◌, ◌+◌, ◌≡◌, ◌∷◌}
+use Rattle.std.specs.Prelude.{Bool, List, None, Option, Some, [], filter, filter_map, if◌then◌else◌, is_some, not, option_and_then, ℕ, ◌&&◌, ◌+◌, ◌≡◌, ◌∷◌}
 use Rattle.mdcc_base.specs.declared.identifiers.TxId.{TxId}
 use Rattle.mdcc_base.specs.declared.key.Key.{Key}
 use Rattle.mdcc_option.specs.declared.items.Update.{Update}
 use Rattle.mdcc_struct.specs.Maps.{TxMap, value_of}
 use Rattle.mdcc_struct.specs.declared.options.Options.{Options}
 use Rattle.mdcc_messages.specs.declared.facts.Fact.{Fact}
-use Rattle.mdcc_protocol.specs.Facts.{current_of, executed_of, is_void}
+use Rattle.mdcc_protocol.specs.Facts.{current_of, executed_of, is_void, live_mark}
 use Rattle.mdcc_protocol.specs.Fit.{capped, has_tx, load_of}
 use Rattle.mdcc_protocol.specs.Marks.{Amounts, choice_in}
 use Rattle.mdcc_protocol.specs.Structures.{live_at_leader}
@@ -16,6 +16,10 @@ use Rattle.mdcc_escrow.specs.Weights.{with_live}
 -- the load with one more update, where its transaction is not void
 abbrev pub with_update : List Fact → Load → TxId → Update → Load
 with_update facts load tx update = if is_void facts tx then load else with_live [] load (tx, update)
+
+-- the accepted choices among marks, without the void ones
+abbrev pub live_marks : List Fact → Options → TxMap Update
+live_marks facts marks = filter (λ e. not (is_void facts e.0)) (filter_map live_mark marks)
 
 -- whether a structure accepts a choice of the transaction
 abbrev pub has_accept : Options → TxId → Bool

@@ -3,11 +3,11 @@ ghost use Rattle.std.specs.Prelude.{◌≡◌, ◌∷◌, List, [], fold, is_som
 ghost use Rattle.mdcc_messages.specs.declared.facts.Fact.{Fact as AFact};
 ghost use Rattle.mdcc_protocol.specs.Facts.{current_of, executed_of, is_void};
 ghost use Rattle.mdcc_protocol.specs.Fit.{capped, load_of};
-ghost use Rattle.mdcc_protocol.specs.Structures.{live_at_leader, live_forced};
+ghost use Rattle.mdcc_protocol.specs.Structures.{live_at_leader};
 ghost use Rattle.mdcc_struct.specs.Maps.{txs_of, value_of};
 ghost use Rattle.mdcc_escrow.specs.Sums.{IsBoundedLoad};
 ghost use Rattle.mdcc_escrow.specs.Weights.{with_live};
-ghost use Rattle.mdcc_structures.specs.Live.{IsWeighed, has_accept, with_delta, with_update};
+ghost use Rattle.mdcc_structures.specs.Live.{IsWeighed, has_accept, live_marks, with_delta, with_update};
 
 use mdcc_base::{BoundedList, Key, TxId};
 use mdcc_escrow::{Load, NO_LOAD, with_live};
@@ -15,11 +15,16 @@ use mdcc_facts::FactStore;
 use mdcc_option::{Mark, Update};
 use mdcc_struct::Options;
 
-/// Whether a transaction was heard aborted.
+/// Whether a transaction was heard aborted, or what was heard of it is idle: it is finished, and no
+/// outcome of it is kept.
+#[tactic(auto, using(crate::proofs::Void::void_ended, crate::proofs::Void::void_finished))]
 pub(crate) fn is_void<S: FactStore>(store: &S, tx: TxId) -> bool
     ensures { (facts : List AFact) → S.stands store.now facts → result ≡ is_void facts tx }
 {
-    matches!(store.ended(tx), Some(false))
+    match store.ended(tx) {
+        Some(commits) => !commits,
+        None => store.finished(tx),
+    }
 }
 
 // Whether a structure accepts a choice of the transaction.
@@ -52,7 +57,7 @@ pub(crate) fn with_update<S: FactStore>(store: &S, load: Load, tx: TxId, update:
 // The load with the choice of one mark, where it accepts one.
 fn with_mark<S: FactStore>(store: &S, load: Load, tx: TxId, mark: &Mark) -> Load
     requires { IsBoundedLoad load }
-    ensures value { (facts : List AFact) → S.stands store.now facts → result ≡ fold (with_live []) load (live_forced facts ((tx, mark.now) ∷ [])) }
+    ensures value { (facts : List AFact) → S.stands store.now facts → result ≡ fold (with_live []) load (live_marks facts ((tx, mark.now) ∷ [])) }
     ensures bounded { IsBoundedLoad result }
 {
     match mark {
@@ -61,9 +66,9 @@ fn with_mark<S: FactStore>(store: &S, load: Load, tx: TxId, mark: &Mark) -> Load
     }
 }
 
-/// What the accepted choices among marks weigh, without the void ones.
-pub(crate) fn load_of_marks<S: FactStore>(store: &S, marks: &Options) -> Load
-    ensures value { (facts : List AFact) → S.stands store.now facts → result ≡ capped (load_of (live_forced facts marks.now) []) }
+// What the accepted choices among marks weigh, without the void ones.
+fn load_of_marks<S: FactStore>(store: &S, marks: &Options) -> Load
+    ensures value { (facts : List AFact) → S.stands store.now facts → result ≡ capped (load_of (live_marks facts marks.now) []) }
     ensures bounded { IsBoundedLoad result }
 {
     let mut load = NO_LOAD;

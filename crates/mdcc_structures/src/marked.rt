@@ -37,8 +37,9 @@ pub(crate) fn with_claims<S: FactStore>(
     Ok(())
 }
 
-// Marks a claim in a structure of which this is the load, and gives the load that it has then; a
-// claim that is in it stays as it is marked.
+// Marks a claim in a structure of which this is the load, and gives the load that it has then. A
+// claim that is in it stays as it is marked, and one whose transaction was heard or is finished is
+// left out: all centres may have forgotten its mark.
 fn with_claim<S: FactStore>(
     store: &S,
     cluster: &Cluster,
@@ -56,7 +57,7 @@ fn with_claim<S: FactStore>(
     ensures bounded { IfOk result (λ load. IsBoundedLoad load) }
 {
     let (tx, choice) = claim;
-    if options.mark_of(tx).is_some() {
+    if options.mark_of(tx).is_some() || store.is_settled(tx) {
         return Ok(load);
     }
     let mark = mark_beside(store, cluster, key, version, options, &load, choice);

@@ -6,7 +6,7 @@ ghost use Rattle.mdcc_protocol.specs.Structures.{first_structure, fit_together, 
 ghost use Rattle.mdcc_struct.specs.Forced.{forced_of};
 
 use crate::Claims;
-use crate::live::load_of_marks;
+use crate::live::load_at_leader;
 use crate::marked::with_claims;
 use crate::reported::all_claims;
 use mdcc_base::{Key, Memory, TxId};
@@ -63,7 +63,7 @@ fn is_enough<S: FactStore>(
 }
 
 // Whether forced marks fit together: where no add is accepted among them, or where the leader holds
-// that very version and their adds, without the void ones, are within the room.
+// that very version and what is live there with them is within the room.
 fn fit_together<S: FactStore>(
     store: &S,
     cluster: &Cluster,
@@ -80,7 +80,7 @@ fn fit_together<S: FactStore>(
         && are_within_room(
             cluster,
             store.base(key).as_ref(),
-            &load_of_marks(store, marks),
+            &load_at_leader(store, key, marks),
         )
 }
 

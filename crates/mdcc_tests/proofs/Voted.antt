@@ -1,14 +1,14 @@
--- A structure of which no mark was voted.
-use Rattle.std.proofs.Common.{◌≡◌, ℕ, ◌+◌, Bool, true, false, List, [], ◌∷◌, is_some, refl, sym, ◌∙◌, arith, inl, inr}
+-- A structure of which no mark was voted, or is of a finished transaction.
+use Rattle.std.proofs.Common.{◌≡◌, ℕ, ◌+◌, Bool, true, false, List, [], ◌∷◌, is_some, refl, sym, ◌∙◌, ◌||◌, arith, inl, inr}
 use Rattle.std.specs.List.{list_any}
 use Rattle.std.specs.Prelude.{◌==◌}
-use Rattle.std.proofs.lemmas.Bool.{cases_Bool}
+use Rattle.std.proofs.lemmas.Bool.{cases_Bool, or_parts}
 use Rattle.std.proofs.lemmas.Bool.Decides.{nat_tests}
 use Rattle.mdcc_base.specs.Counts.{number_of}
 use Rattle.mdcc_base.specs.declared.identifiers.Ballot.{Ballot}
 use Rattle.mdcc_base.specs.declared.key.Key.{Key}
-use Rattle.mdcc_protocol.specs.Facts.{votes_of}
-use Rattle.mdcc_protocol.specs.Stores.{count_voted}
+use Rattle.mdcc_facts.specs.Past.{count_past, is_past_mark}
+use Rattle.mdcc_protocol.specs.Facts.{is_finished, votes_of}
 use Rattle.mdcc_messages.specs.declared.facts.Fact.{Fact}
 use Rattle.mdcc_struct.specs.Maps.{value_of}
 use Rattle.mdcc_struct.specs.declared.options.Options.{Options}
@@ -21,9 +21,17 @@ none_pass p (x ∷ xs) h =
       | inr fails ↦ rw fails (none_pass p xs (let rest : 0 + number_of p xs ≡ 0 = rw fails at h in omega (arith, rest)))
     ]
 
+-- where one or the other is never so, neither is the first
+neither : {X : Type 0} (p q : X → Bool) (xs : List X) → list_any (λ x. p x || q x) xs ≡ false → list_any p xs ≡ false
+neither p q [] h = refl
+neither p q (x ∷ xs) h =
+    let parts = or_parts (p x || q x) (list_any (λ x. p x || q x) xs) h in
+    rw (or_parts (p x) (q x) parts.0).0 (neither p q xs parts.1)
+
 pub none_voted : (facts : List Fact) (key : Key) (version : ℕ) (ballot : Ballot) (options : Options) (count : ℕ)
-    → count ≡ count_voted facts key version ballot options → (count == 0) ≡ true
+    → count ≡ count_past facts key version ballot options → (count == 0) ≡ true
     → list_any (λ e. is_some (value_of (votes_of facts key version ballot) e.0)) options ≡ false
 none_voted facts key version ballot options count is h =
     let zero : count ≡ 0 = grind (arith, nat_tests) in
-    none_pass (λ e. is_some (value_of (votes_of facts key version ballot) e.0)) options (sym is ∙ zero)
+    neither (λ e. is_some (value_of (votes_of facts key version ballot) e.0)) (λ e. is_finished facts e.0) options
+    (none_pass (λ e. is_past_mark facts key version ballot e.0) options (sym is ∙ zero))

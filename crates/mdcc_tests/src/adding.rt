@@ -13,14 +13,16 @@ ghost use Rattle.std.specs.Prelude.{◌≡◌, ◌≤◌, ◌∷◌, IfSome, IsT
 ghost use Rattle.std.specs.Bool.{OnTrue};
 
 use mdcc_base::{Ballot, Key};
-use mdcc_facts::{Fact, FactStore, ListFacts, StoreFault};
+use mdcc_facts::{Fact, FactStore, StoreFault};
 use mdcc_journal::{decode_fact, encode_fact};
+use mdcc_list_facts::ListFacts;
 use mdcc_spelling::facts::{facts_have_one_spelling, facts_read_are_well_formed};
 use mdcc_spelling::sizes::lengths_are_exact;
 use mdcc_struct::Options;
 use std::alloc::Global;
 
-// Whether no mark of a structure was voted in an instance at a ballot.
+// Whether no mark of a structure was voted in an instance at a ballot, and none is of a finished
+// transaction.
 fn are_new<S: FactStore>(
     store: &S,
     key: &Key,
@@ -31,7 +33,7 @@ fn are_new<S: FactStore>(
     ensures { (facts : List AFact) → S.stands store.now facts → IsTrue result
         → list_any (λ e. is_some (value_of (votes_of facts key.now version ballot) e.0)) options.now ≡ false }
 {
-    store.count_voted(key, version, ballot, options) == 0
+    store.count_past(key, version, ballot, options) == 0
 }
 
 // Whether the lists of the fact are no longer than their counts can say.
@@ -107,13 +109,14 @@ fn is_news<S: FactStore>(store: &S, fact: &Fact) -> bool
             options,
             offered: _,
         } => are_new(store, key, *version, *ballot, options),
-        Fact::Heard { tx, outcome: _ } => !store.is_heard(*tx),
+        Fact::Heard { tx, outcome: _ } => !store.is_settled(*tx),
         Fact::Adopted {
             key: _,
             version: _,
             item: _,
             adds: _,
         } => true,
+        Fact::Floor { .. } => false,
     }
 }
 

@@ -3,7 +3,8 @@
 use crate::adding::put;
 use crate::facts::{LED, committed, decrease, key, led, tx};
 use mdcc_base::Ballot;
-use mdcc_facts::{Fact, FactStore, ListFacts};
+use mdcc_facts::{Fact, FactStore};
+use mdcc_list_facts::ListFacts;
 use mdcc_option::{Mark, Outcome};
 use mdcc_struct::Options;
 use std::alloc::Global;
@@ -50,13 +51,13 @@ fn four(alloc: Global) -> Result<Options, Fail> {
     Ok(options)
 }
 
-// How many of those are voted.
+// How many of those are voted. None is finished.
 fn are_counted(store: &ListFacts, options: &Options) -> bool {
     let a = key();
-    store.count_voted(&a, 1, LED, options) == 2
-        && store.count_voted(&a, 1, Ballot::FAST, options) == 1
-        && store.count_voted(&a, 1, NEXT, options) == 0
-        && store.count_voted(&a, 0, LED, options) == 0
+    store.count_past(&a, 1, LED, options) == 2
+        && store.count_past(&a, 1, Ballot::FAST, options) == 1
+        && store.count_past(&a, 1, NEXT, options) == 0
+        && store.count_past(&a, 0, LED, options) == 0
 }
 
 #[test]
@@ -93,8 +94,9 @@ fn marks_are_given_one_after_the_other(rt: HostRuntime) -> Result<(), Fail> {
 
 // Only the first transaction is heard, and the fourth has no choice.
 fn is_one_ended(store: &ListFacts) -> bool {
-    store.is_heard(tx(1))
-        && !store.is_heard(tx(2))
+    store.is_settled(tx(1))
+        && !store.is_settled(tx(2))
+        && !store.finished(tx(1))
         && store.ended(tx(1)) == Some(true)
         && store.ended(tx(2)).is_none()
         && store.write_set(tx(1)).is_none()
@@ -122,7 +124,7 @@ fn an_abort_ends_a_transaction(rt: HostRuntime) -> Result<(), Fail> {
         tx: tx(2),
         outcome: Outcome::Abort,
     };
-    assert!(rt; put(&mut store, &aborted) && store.is_heard(tx(2)));
+    assert!(rt; put(&mut store, &aborted) && store.is_settled(tx(2)));
     assert!(rt; store.ended(tx(2)) == Some(false) && store.write_set(tx(2)).is_none());
     let left = [(tx(3), decrease(3).write_set)];
     let all = store.unresolved_all(rt.alloc())?;

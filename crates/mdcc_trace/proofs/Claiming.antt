@@ -13,14 +13,15 @@ use Rattle.mdcc_option.specs.declared.choices.Claim.{Claim}
 use Rattle.mdcc_option.specs.declared.cluster.Cluster.{Cluster}
 use Rattle.mdcc_struct.specs.declared.options.Options.{Options}
 use Rattle.mdcc_struct.specs.Maps.{value_of}
-use Rattle.mdcc_protocol.specs.Facts.{current_of, epoch_of, promise_of, report_of}
+use Rattle.mdcc_struct.specs.declared.report.Report.{Report}
+use Rattle.mdcc_protocol.specs.Facts.{current_of, epoch_of, promise_of}
 use Rattle.mdcc_protocol.specs.Structures.{with_choice, with_claim}
 use Rattle.mdcc_rules.specs.LeaderRules.{led_by_answer, led_of}
 use Rattle.mdcc_protocol.specs.Leader.{has_proposed, is_covered, is_marked, is_marked_by, is_waiting, lead_begun, led_again, led_anew, led_by, led_on, next_round, refused_by, with_refused}
 use Rattle.mdcc_protocol.specs.Volatile.{Counted, Lead, Leading, Volatile, lead_of, number_at, structure_at, structure_found, with_lead, with_leader, with_number, with_structure}
 use Rattle.mdcc_ledger.specs.Ledger.{Entry, Valued, facts_of}
 use Rattle.mdcc_ledger.specs.AllowedLedgers.{is_valued}
-use Rattle.mdcc_ledger.specs.AllowedStructures.{are_distinct, promisers_of, reports_at}
+use Rattle.mdcc_ledger.specs.AllowedStructures.{IsAmongCentres, are_distinct, promisers_of}
 use Rattle.mdcc_messages.specs.declared.messages.Message.{Message}
 use Rattle.mdcc_rules.specs.Messages.{to_all, to_each, to_others}
 use Rattle.mdcc_rules.specs.Steps.{StepPart}
@@ -32,7 +33,7 @@ use Rattle.mdcc_trace_states.proofs.Led.{IsClaim-more, IsPromise-more}
 use Rattle.mdcc_protocol.proofs.EnoughPromises.{parts-classic}
 use Rattle.mdcc_trace_rules.proofs.Begins.{sends-good, stands-each}
 use Rattle.mdcc_trace_rules.proofs.Chains.{last-valued, once-claim, structure-once}
-use Rattle.mdcc_trace.proofs.Claims.{empty-enough, empty-first, found-with, one-more, reports-empty}
+use Rattle.mdcc_trace.proofs.Claims.{IsEmptyReport, are-reports, centres-then, empty-enough, empty-first, found-with, length-then, one-more, reports-empty, reports-then}
 use Rattle.mdcc_trace.proofs.Leading.{among, lead-in, lead-kept, new-kept, number-new, promisers-enough}
 use Rattle.mdcc_trace.proofs.Making.{none-sound, one-choice, sound-claim}
 use Rattle.mdcc_trace_rules.proofs.Promises.{current-within}
@@ -81,7 +82,7 @@ module _ (also : List Entry → Type 0) (well : IsWell also) (cluster : Cluster)
   -- messages and the leader's own state
   sent : (l : Leading) (message : Message) (cs : List ℕ) → Leads cluster es a l → Says cluster es a message → FineLed (Ok (record { after = with_leader volatile l; entries = []; sends = to_each cs a message }))
   sent l message cs h says =
-      (sends-good also cluster es a volatile (with_leader volatile l) (to_each cs a message) up (record { manager = up.keeps.manager; recovery = up.keeps.recovery; leader = h }) (stands-each cluster es a message cs up.centre says), refl)
+      (sends-good also cluster es a volatile (with_leader volatile l) (to_each cs a message) up (record { manager = up.keeps.manager; recovery = up.keeps.recovery; leader = h; told = up.keeps.told }) (stands-each cluster es a message cs up.centre says), refl)
 
   -- ---- a new lead
 
@@ -218,21 +219,23 @@ module _ (also : List Entry → Type 0) (well : IsWell also) (cluster : Cluster)
       held = held-here;
       promised = promised;
       made = inl (
-        map (λ (p : Counted). p.from) reach,
+        reports,
         (claim.tx, claim.choice) ∷ [],
         record {
           none_before = g.found claim.version ∙ f;
-          promised = among cluster es x.key x.version claim.version x.ballot reach promises apart ranges;
-          enough = empty-enough cluster (facts_of es a) x.key claim.version (reports_at es x.key claim.version x.ballot (map (λ (p : Counted). p.from) reach))
+          promised = subst (λ z. IsAmongCentres z (promisers_of cluster.quorums es x.key claim.version x.ballot)) (centres-then cluster es x.key x.version claim.version x.ballot reach promises)
+              (among cluster es x.key x.version claim.version x.ballot reach promises apart ranges);
+          reported = are-reports cluster es x.key x.version claim.version x.ballot reach promises ranges;
+          enough = empty-enough cluster (facts_of es a) x.key claim.version reports
               (omega (
                 arith,
                 (covered e).1,
                 count-filter (λ (p : Counted). nat_le claim.version p.through) x.promises,
-                length-map (map (λ (p : Counted). p.from) reach) (λ c. report_of c (facts_of es c) x.key claim.version x.ballot),
+                length-then cluster es x.key x.version claim.version x.ballot reach promises,
+                length-map reach (λ (p : Counted). p.from),
               ))
-              (reports-empty cluster es x.key x.version claim.version x.ballot reach up.legal later promises ranges);
-          made = empty-first cluster (facts_of es a) x.key claim.version (claim.tx, claim.choice) (reports_at es x.key claim.version x.ballot (map (λ (p : Counted). p.from) reach))
-              (reports-empty cluster es x.key x.version claim.version x.ballot reach up.legal later promises ranges);
+              empty;
+          made = empty-first cluster (facts_of es a) x.key claim.version (claim.tx, claim.choice) reports empty;
         },
       );
       once = once-claim cluster (facts_of es a) x.key claim.version [] (claim.tx, claim.choice) tt;
@@ -269,6 +272,12 @@ module _ (also : List Entry → Type 0) (well : IsWell also) (cluster : Cluster)
                     absurd (false≢true (sym bad ∙ proposed))
               ]
             ]
+
+        reports : List Report
+        reports = reports-then cluster es x.key x.version claim.version x.ballot reach promises
+
+        empty : Each IsEmptyReport (reports-then cluster es x.key x.version claim.version x.ballot reach promises)
+        empty = reports-empty cluster es x.key x.version claim.version x.ballot reach up.legal later promises ranges
 
     on-good : is_covered cluster.quorums x claim.version ≡ true → Fine (Ok (led_on cluster (facts_of es a) volatile.leader x claim))
     on-good e =

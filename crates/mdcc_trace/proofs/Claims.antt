@@ -17,12 +17,16 @@ use Rattle.mdcc_struct.specs.Maps.{TxMap, inserted, union, value_of}
 use Rattle.mdcc_struct.specs.declared.report.Report.{Report}
 use Rattle.mdcc_struct.specs.Forced.{ballot_reported, forced_of, marks_reported}
 use Rattle.mdcc_messages.specs.declared.facts.Fact.{Fact}
-use Rattle.mdcc_protocol.specs.Facts.{ballot_voted, current_of, last_ballot, marks_voted, promise_of, promised_through, range_promised, report_of, votes_of}
+use Rattle.mdcc_protocol.specs.Facts.{ballot_voted, current_of, is_settled, last_ballot, marks_voted, promise_of, promised_through, range_promised, report_of, votes_of, without_forgotten}
 use Rattle.mdcc_protocol.specs.Fit.{parts_of}
 use Rattle.mdcc_protocol.specs.Structures.{choices_reported, first_structure, fit_together, is_enough, is_left_out, mark_of_choice, with_claim}
 use Rattle.mdcc_ledger.specs.Ledger.{Added, Entry, Valued, facts_of}
 use Rattle.mdcc_ledger.specs.AllowedLedgers.{IsAllowed}
-use Rattle.mdcc_ledger.specs.AllowedStructures.{reports_at}
+use Rattle.mdcc_ledger.specs.AllowedStructures.{IsReport, centres_of}
+use Rattle.mdcc_trace_rules.specs.Laws.{last_report}
+use Rattle.mdcc_trace_rules.proofs.Syncs.{later}
+use Rattle.std.specs.List.{AllByRecursion}
+use Rattle.mdcc_trace.proofs.Leading.{through-any}
 use Rattle.mdcc_ledger.specs.BootTest.{is_allowed_fast_vote}
 use Rattle.mdcc_protocol.specs.Volatile.{Counted, structure_found, with_structure}
 use Rattle.mdcc_trace_states.specs.Words.{Each}
@@ -32,7 +36,7 @@ use Rattle.mdcc_trace_states.proofs.Boots.{kind}
 use Rattle.mdcc_trace_states.proofs.Ledgers.{Allowed-tail}
 use Rattle.mdcc_trace_states.proofs.Led.{current-grows}
 use Rattle.mdcc_trace_rules.proofs.Order.{max-fast}
-use Rattle.mdcc_trace_rules.proofs.Promises.{classic-parts, fact-report, report-kept, through-promise}
+use Rattle.mdcc_trace_rules.proofs.Promises.{classic-parts, fact-report, through-promise}
 use Rattle.mdcc_trace_rules.proofs.Votings.{fast-parts, mark-parts}
 
 -- ---- above what it holds a centre has no votes
@@ -71,6 +75,7 @@ no-votes cluster (Added c f ∷ es) a k v m legal h =
     here (Fact.Booted n) l s less r = quiet (Fact.Booted n) refl (λ b. refl) r
     here (Fact.Promised j lo hi b) l s less r = quiet (Fact.Promised j lo hi b) refl (λ b. refl) r
     here (Fact.Heard t o) l s less r = quiet (Fact.Heard t o) refl (λ b. refl) r
+    here (Fact.Floor origin era upto) l s less r = quiet (Fact.Floor origin era upto) refl (λ b. refl) r
     here (Fact.Adopted j w it ds) l s less r = quiet (Fact.Adopted j w it ds) refl (λ b. refl) r
     here (Fact.Voted j w n os off) l s less r =
         let within = vote-within cluster es c j w n os off l in
@@ -107,20 +112,21 @@ abbrev pub IsEmptyReport : Report → Type 0
 IsEmptyReport r = (r.ballot ≡ fast_ballot) × (r.votes ≡ [])
 
 -- a promise on a range was made by a centre that had no votes above its begin
-empty-report : (cluster : Cluster) (es : List Entry) (a : ℕ) (k : Key) (low high v : ℕ) (m : Ballot) → IsAllowed cluster es → promised_through (facts_of es a) k low m ≡ Some high → low < v → v ≤ high → IsEmptyReport (report_of 0 (facts_of es a) k v m)
-empty-report cluster [] a k low high v m legal h x y = absurd (cc)
-empty-report cluster (Entry.Begun c t cs ∷ es) a k low high v m legal h x y = empty-report cluster es a k low high v m legal.0 h x y
-empty-report cluster (Valued c j w b os ∷ es) a k low high v m legal h x y = empty-report cluster es a k low high v m legal.0 h x y
-empty-report cluster (Added c f ∷ es) a k low high v m legal h x y =
+empty-last : (cluster : Cluster) (es : List Entry) (a : ℕ) (k : Key) (low high v : ℕ) (m : Ballot) → IsAllowed cluster es → promised_through (facts_of es a) k low m ≡ Some high → low < v → v ≤ high → IsEmptyReport (last_report (facts_of es a) k v m)
+empty-last cluster [] a k low high v m legal h x y = absurd (cc)
+empty-last cluster (Entry.Begun c t cs ∷ es) a k low high v m legal h x y = empty-last cluster es a k low high v m legal.0 h x y
+empty-last cluster (Valued c j w b os ∷ es) a k low high v m legal h x y = empty-last cluster es a k low high v m legal.0 h x y
+empty-last cluster (Added c f ∷ es) a k low high v m legal h x y =
     elim (cases_Bool (c == a)) [
       | inl e ↦ let g : option_or (promised_through (facts_of es a) k low m) (range_promised k low m f) ≡ Some high = rw e at h in
-          rw e (by_case (eqb-true c a e) (λ i. empty-report cluster es a k low high v m legal.0 i x y) (promised_through (facts_of es a) k low m) refl g)
-      | inr e ↦ rw e (empty-report cluster es a k low high v m legal.0 (rw e at h) x y)
+          rw e (by_case (eqb-true c a e) (λ i. empty-last cluster es a k low high v m legal.0 i x y) (promised_through (facts_of es a) k low m) refl g)
+      | inr e ↦ rw e (empty-last cluster es a k low high v m legal.0 (rw e at h) x y)
     ]
   where
-    new : (f : Fact) → IsAllowed cluster (Added c f ∷ es) → c ≡ a → range_promised k low m f ≡ Some high → IsEmptyReport (report_of 0 (f ∷ facts_of es a) k v m)
+    new : (f : Fact) → IsAllowed cluster (Added c f ∷ es) → c ≡ a → range_promised k low m f ≡ Some high → IsEmptyReport (last_report (f ∷ facts_of es a) k v m)
     new (Fact.Booted n) l s g = absurd (cc)
     new (Fact.Heard t o) l s g = absurd (cc)
+    new (Fact.Floor origin era upto) l s g = absurd (cc)
     new (Fact.Adopted j w it ds) l s g = absurd (cc)
     new (Fact.Voted j w b os off) l s g = absurd (cc)
     new (Fact.Promised j lo hi b) l s g =
@@ -145,24 +151,54 @@ empty-report cluster (Added c f ∷ es) a k low high v m legal h x y =
           | inr e ↦ let bad : None ≡ Some high = rw e at g in absurd (cc)
         ]
 
-    by_case : c ≡ a → (promised_through (facts_of es a) k low m ≡ Some high → IsEmptyReport (report_of 0 (facts_of es a) k v m)) → (o : Option ℕ) → promised_through (facts_of es a) k low m ≡ o → option_or o (range_promised k low m f) ≡ Some high →
-        IsEmptyReport (report_of 0 (f ∷ facts_of es a) k v m)
+    by_case : c ≡ a → (promised_through (facts_of es a) k low m ≡ Some high → IsEmptyReport (last_report (facts_of es a) k v m)) → (o : Option ℕ) → promised_through (facts_of es a) k low m ≡ o → option_or o (range_promised k low m f) ≡ Some high →
+        IsEmptyReport (last_report (f ∷ facts_of es a) k v m)
     by_case s rest None e g = new f legal s g
     by_case s rest (Some n) e g =
         let i : promised_through (facts_of es a) k low m ≡ Some high = e ∙ g in
         let p = through-promise (facts_of es a) k low high m v i (omega (arith, x)) y in
         let r = fact-report cluster es c f k v m legal (subst (λ z. ballot_lt (promise_of (facts_of es z) k v) m ≡ false) (sym s) p) in
-        let r' : report_of 0 (f ∷ facts_of es a) k v m ≡ report_of 0 (facts_of es a) k v m = subst (λ z. report_of 0 (f ∷ facts_of es z) k v m ≡ report_of 0 (facts_of es z) k v m) s r in
+        let r' : last_report (f ∷ facts_of es a) k v m ≡ last_report (facts_of es a) k v m = subst (λ z. last_report (f ∷ facts_of es z) k v m ≡ last_report (facts_of es z) k v m) s r in
         subst IsEmptyReport (sym r') (rest i)
 
-pub reports-empty : (cluster : Cluster) (es : List Entry) (k : Key) (low v : ℕ) (m : Ballot) (ps : List Counted) → IsAllowed cluster es → low < v → Each (IsPromise cluster es k low m) ps → Each (λ (p : Counted). (low ≤ v) × (v ≤ p.through)) ps →
-    Each IsEmptyReport (reports_at es k v m (map (λ (p : Counted). p.from) ps))
+-- so it reports nothing there
+empty-report : (cluster : Cluster) (es : List Entry) (a : ℕ) (k : Key) (low high v : ℕ) (m : Ballot) → IsAllowed cluster es → promised_through (facts_of es a) k low m ≡ Some high → low < v → v ≤ high → IsEmptyReport (report_of a (facts_of es a) k v m)
+empty-report cluster es a k low high v m legal h x y =
+    let last = empty-last cluster es a k low high v m legal h x y in
+    (last.0, by_case (is_fast m) (votes_of (facts_of es a) k v (last_ballot (facts_of es a) k v m)) last.1)
+  where
+    by_case : (b : Bool) (os : Options) → cond b [] os ≡ [] → cond b [] (without_forgotten (facts_of es a) k v os) ≡ []
+    by_case true os g = refl
+    by_case false os g = ap (λ (z : Options). without_forgotten (facts_of es a) k v z) g
+
+-- the reports of counted promises in an instance, as they were when the promises were made
+pub reports-then : (cluster : Cluster) (es : List Entry) (k : Key) (low v : ℕ) (m : Ballot) (ps : List Counted) → Each (IsPromise cluster es k low m) ps → List Report
+reports-then cluster es k low v m [] h = []
+reports-then cluster es k low v m (p ∷ ps) h = report_of p.from (facts_of h.0.old p.from) k v m ∷ reports-then cluster es k low v m ps h.1
+
+pub centres-then : (cluster : Cluster) (es : List Entry) (k : Key) (low v : ℕ) (m : Ballot) (ps : List Counted) (h : Each (IsPromise cluster es k low m) ps) → map (λ (p : Counted). p.from) ps ≡ centres_of (reports-then cluster es k low v m ps h)
+unfolding reports-then
+centres-then cluster es k low v m [] h = refl
+centres-then cluster es k low v m (p ∷ ps) h = ap (λ z. p.from ∷ z) (centres-then cluster es k low v m ps h.1)
+
+pub length-then : (cluster : Cluster) (es : List Entry) (k : Key) (low v : ℕ) (m : Ballot) (ps : List Counted) (h : Each (IsPromise cluster es k low m) ps) → length (reports-then cluster es k low v m ps h) ≡ length ps
+unfolding reports-then
+length-then cluster es k low v m [] h = refl
+length-then cluster es k low v m (p ∷ ps) h = omega (arith, length-then cluster es k low v m ps h.1)
+
+pub are-reports : (cluster : Cluster) (es : List Entry) (k : Key) (low v : ℕ) (m : Ballot) (ps : List Counted) (h : Each (IsPromise cluster es k low m) ps) → Each (λ (p : Counted). (low ≤ v) × (v ≤ p.through)) ps → AllByRecursion (IsReport es k v m) (reports-then cluster es k low v m ps h)
+unfolding reports-then
+are-reports cluster es k low v m [] h g = tt
+are-reports cluster es k low v m (p ∷ ps) h g =
+    let l = later h.0.old es h.0.tail in
+    ((l.0, h.0.old, record { parts = l.1; promised = through-any (facts_of h.0.old p.from) k low p.through m v h.0.promised g.0.0 g.0.1; same = refl }), are-reports cluster es k low v m ps h.1 g.1)
+
+pub reports-empty : (cluster : Cluster) (es : List Entry) (k : Key) (low v : ℕ) (m : Ballot) (ps : List Counted) → IsAllowed cluster es → low < v → (h : Each (IsPromise cluster es k low m) ps) → Each (λ (p : Counted). (low ≤ v) × (v ≤ p.through)) ps →
+    Each IsEmptyReport (reports-then cluster es k low v m ps h)
+unfolding reports-then
 reports-empty cluster es k low v m [] legal x h g = tt
 reports-empty cluster es k low v m (p ∷ ps) legal x h g =
-    let before = empty-report cluster h.0.old p.from k low p.through v m (Allowed-tail cluster h.0.old es h.0.tail legal) h.0.promised x g.0.1 in
-    let promised = through-promise (facts_of h.0.old p.from) k low p.through m v h.0.promised g.0.0 g.0.1 in
-    let kept = report-kept cluster h.0.old es p.from k v m legal h.0.tail promised in
-    ((ap (λ (z : Report). z.ballot) kept.0 ∙ before.0, ap (λ (z : Report). z.votes) kept.0 ∙ before.1), reports-empty cluster es k low v m ps legal x h.1 g.1)
+    (empty-report cluster h.0.old p.from k low p.through v m (Allowed-tail cluster h.0.old es h.0.tail legal) h.0.promised x g.0.1, reports-empty cluster es k low v m ps legal x h.1 g.1)
 
 -- ---- the first structure of nothing but a claim
 
@@ -214,7 +250,10 @@ length-inserted (x ∷ xs) e = elim (cases_Bool (tx_lt x.0 e.0)) [ inl l ↦ rw 
 
 pub one-more : (cluster : Cluster) (facts : List Fact) (k : Key) (v : ℕ) (os : Options) (e : TxId × Option Choice) → is_some (value_of os e.0) ≡ false → is_some (value_of (with_claim cluster facts k v os e) e.0) ≡ true → length (with_claim cluster facts k v os e) ≡ length os + 1
 one-more cluster facts k v os e h g =
-    elim (cases_Bool (is_left_out os (mark_of_choice cluster facts k v os e.1))) [
-      | inl f ↦ let same : with_claim cluster facts k v os e ≡ os = rw h (rw f refl) in absurd (true≢false (sym g ∙ (ap (λ z. is_some (value_of z e.0)) same ∙ h)))
-      | inr f ↦ rw h (rw f (length-inserted os (e.0, mark_of_choice cluster facts k v os e.1)))
+    elim (cases_Bool (is_settled facts e.0)) [
+      | inl q ↦ let same : with_claim cluster facts k v os e ≡ os = rw h (rw q refl) in absurd (true≢false (sym g ∙ (ap (λ z. is_some (value_of z e.0)) same ∙ h)))
+      | inr q ↦ elim (cases_Bool (is_left_out os (mark_of_choice cluster facts k v os e.1))) [
+        | inl f ↦ let same : with_claim cluster facts k v os e ≡ os = rw h (rw q (rw f refl)) in absurd (true≢false (sym g ∙ (ap (λ z. is_some (value_of z e.0)) same ∙ h)))
+        | inr f ↦ rw h (rw q (rw f (length-inserted os (e.0, mark_of_choice cluster facts k v os e.1))))
+      ]
     ]

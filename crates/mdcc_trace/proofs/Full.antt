@@ -1,5 +1,5 @@
 -- Each step of a node is good, with all rules, where ledgers with sound marks have one mark.
-use Rattle.std.proofs.Common.{Bool, Err, List, None, Ok, Option, Result, Some, [], cond, false, inl, inr, not, refl, subst, sym, true, ℕ, ◌&&◌, ◌++◌, ◌==◌, ◌∙◌, ◌∷◌, ◌≡◌}
+use Rattle.std.proofs.Common.{Bool, Err, List, None, Ok, Option, Result, Some, [], cond, false, inl, inr, not, refl, subst, sym, true, ℕ, ◌&&◌, ◌++◌, ◌<◌, ◌==◌, ◌∙◌, ◌∷◌, ◌≡◌}
 use Rattle.std.specs.Prelude.{filter, flat_map, fold, map, nat_le, ◌%◌}
 use Rattle.std.specs.Option.{option_or}
 use Rattle.std.proofs.lemmas.Bool.{and_parts, cases_Bool}
@@ -12,7 +12,7 @@ use Rattle.mdcc_option.specs.declared.cluster.Cluster.{Cluster}
 use Rattle.mdcc_option.specs.declared.choices.Outcome.{Outcome}
 use Rattle.mdcc_struct.specs.Maps.{TxMap, value_of}
 use Rattle.mdcc_messages.specs.declared.facts.Fact.{Fact}
-use Rattle.mdcc_protocol.specs.Facts.{choice_known, heard_of, is_heard, unresolved_of, write_sets_from, write_sets_of}
+use Rattle.mdcc_protocol.specs.Facts.{are_heard, choice_known, is_finished, is_settled, outcome_kept, unresolved_of, write_sets_from, write_sets_of}
 use Rattle.mdcc_ledger.specs.Ledger.{Added, Entry, facts_of, mark_given}
 use Rattle.mdcc_ledger.specs.AllowedLedgers.{IsAllowed, is_valued}
 use Rattle.mdcc_protocol.specs.Belongs.{adds_belong, ballot_belongs, is_centre, item_belongs, mark_belongs, message_belongs, options_belong, outcome_belongs, tx_belongs}
@@ -38,8 +38,9 @@ use Rattle.mdcc_trace_states.proofs.Ledgers.{is_begun-tail, mark-tail}
 use Rattle.mdcc_trace_rules.proofs.Begins.{Each-flat_map, begin-good, nothing-good, sends-good, stands-each}
 use Rattle.mdcc_trace_rules.proofs.Proposals.{propose-good}
 use Rattle.mdcc_trace_rules.proofs.Rules.{escalate-good, heard-good, voted-good}
+use Rattle.mdcc_trace_rules.proofs.Floors.{finished-good, mark-good, sweep-good}
 use Rattle.mdcc_trace_rules.proofs.Syncs.{ask-good, sync-ask-good, sync-give-good}
-use Rattle.mdcc_trace_rules.proofs.Votings.{was-outcome}
+use Rattle.mdcc_trace_rules.proofs.Votings.{kept-heard, was-outcome}
 use Rattle.mdcc_trace_rules.proofs.Chains.{HasOnce, once-union, once-value, structure-once, valued-tail}
 use Rattle.mdcc_trace_rules.proofs.Promises.{prepare-good}
 use Rattle.mdcc_trace_rules.proofs.Accepting.{accept-good}
@@ -138,7 +139,7 @@ known-acts cluster facts recovery opened =
     found : (e : TxId × List (Key × ℕ)) → In e (dangling facts opened) → value_of (write_sets_of facts) e.0 ≡ Some e.1
     found e i =
         let j = In-filter (λ (e : TxId × List (Key × ℕ)). not (has_tx opened e.0)) (unresolved_of facts) e i in
-        let k = In-filter (λ (e : TxId × List (Key × ℕ)). not (is_heard facts e.0)) (write_sets_of facts) e j.0 in
+        let k = In-filter (λ (e : TxId × List (Key × ℕ)). not (is_settled facts e.0)) (write_sets_of facts) e j.0 in
         once-value (write_sets_of facts) e (once-sets facts) k.0
 
 second-part : (law : OneMarkLaw) (cluster : Cluster) (es : List Entry) (a : ℕ) (v : Volatile) (first : StepPart) → IsUp IsSound cluster es a v → IsGoodPart IsSound cluster es a first →
@@ -167,7 +168,7 @@ second-part law cluster es a v first up h =
         placed = h.good.placed;
         more = h.good.more;
         stand = h.good.stand;
-        keeps = record { manager = h.good.keeps.manager; recovery = h.good.keeps.recovery; leader = h.good.keeps.leader };
+        keeps = record { manager = h.good.keeps.manager; recovery = h.good.keeps.recovery; leader = h.good.keeps.leader; told = h.good.keeps.told };
       };
       still = h.still;
     }
@@ -189,11 +190,15 @@ module _ (law : OneMarkLaw) (cluster : Cluster) (es : List Entry) (a : ℕ) (vol
   led-step (Ok part) g = λ room. g.0
   led-step (Err fault) g = tt
 
-  lead-good : (s : ℕ) (choice : Choice) (o : Option Outcome) → heard_of (facts_of es a) choice.tx ≡ o → IsClaim es choice.key choice.version (choice.tx, Some choice) → Roomy (lead_step_after (here cluster a (facts_of es a)) volatile s choice o)
+  lead-good : (s : ℕ) (choice : Choice) (o : Option Outcome) → outcome_kept (facts_of es a) choice.tx ≡ o → IsClaim es choice.key choice.version (choice.tx, Some choice) → Roomy (lead_step_after (here cluster a (facts_of es a)) volatile s choice o)
   lead-good s choice (Some o) e claim = λ room.
-      let w = was-outcome cluster es a choice.tx o up.legal e in
+      let w = was-outcome cluster es a choice.tx o up.legal (kept-heard (facts_of es a) choice.tx o e) in
       sends-good IsSound cluster es a volatile volatile _ up up.keeps (record { from = up.centre; old = w.old; tail = w.tail; says = w.outcome }, tt)
-  lead-good s choice None e claim = led-step (led_of (here cluster a (facts_of es a)) volatile (claim_of_choice choice)) (led-good IsSound (sound-well law) cluster es a volatile up (claim_of_choice choice) claim)
+  lead-good s choice None e claim =
+      elim (cases_Bool (is_finished (facts_of es a) choice.tx)) [
+        | inl f ↦ rw f (λ room. sends-good IsSound cluster es a volatile volatile _ up up.keeps (record { from = up.centre; old = es; tail = IsTail-same es; says = f }, tt))
+        | inr f ↦ rw f (led-step (led_of (here cluster a (facts_of es a)) volatile (claim_of_choice choice)) (led-good IsSound (sound-well law) cluster es a volatile up (claim_of_choice choice) claim))
+      ]
 
   pub message-good : (env : Envelope) (message : Message) → env.message ≡ message → TrueWhenSent cluster es env → is_centre cluster env.from ≡ true → message_belongs cluster message ≡ true →
       Roomy (message_step (here cluster a (facts_of es a)) volatile env.from message)
@@ -208,7 +213,7 @@ module _ (law : OneMarkLaw) (cluster : Cluster) (es : List Entry) (a : ℕ) (vol
   message-good env (Message.Escalate k v t cause) e h from belongs = λ room. escalate-good IsSound (sound-well law).shut cluster es a volatile up env.from k t cause
   message-good env (Message.Lead choice) e h from belongs =
       let said = subst (λ z. Says cluster h.old env.from z) e h.says in
-      lead-good env.from choice (heard_of (facts_of es a) choice.tx) refl (choice-claim es choice (is_begun-tail cluster h.old es choice up.legal h.tail said))
+      lead-good env.from choice (outcome_kept (facts_of es a) choice.tx) refl (choice-claim es choice (is_begun-tail cluster h.old es choice up.legal h.tail said))
   message-good env (Message.Prepare k v w b) e h from belongs =
       let said = subst (λ z. Says cluster h.old env.from z) e h.says in
       λ room. prepare-good IsSound (sound-well law).shut cluster es a volatile up env.from k v w b said.0 said.1 belongs
@@ -225,7 +230,7 @@ module _ (law : OneMarkLaw) (cluster : Cluster) (es : List Entry) (a : ℕ) (vol
       (λ legal. classic-sound cluster a k v b os es legal (structure-once cluster es k v b os up.legal was) (up.more.structures k v b os was) up.more)
   message-good env (Message.Refused k v b p) e h from belongs =
       λ room. nothing-good IsSound cluster es a volatile (with_leader volatile (refused_by volatile.leader k b p (lead_of volatile.leader k))) up
-      (record { manager = up.keeps.manager; recovery = up.keeps.recovery; leader = refused-good IsSound cluster es a volatile up k b p })
+      (record { manager = up.keeps.manager; recovery = up.keeps.recovery; leader = refused-good IsSound cluster es a volatile up k b p; told = up.keeps.told })
   message-good env (Message.Outcome t o) e h from belongs =
       let said = subst (λ z. Says cluster h.old env.from z) e h.says in
       let p = and_parts (tx_belongs cluster t) (outcome_belongs cluster o) belongs in
@@ -236,6 +241,10 @@ module _ (law : OneMarkLaw) (cluster : Cluster) (es : List Entry) (a : ℕ) (vol
       let said = subst (λ z. Says cluster h.old env.from z) e h.says in
       let p = and_parts (item_belongs cluster item) (adds_belong cluster adds) belongs in
       λ room. sync-give-good IsSound (sound-well law).shut cluster es a volatile up h.old env.from k v item adds h.tail said.0 said.1 said.2 p.0 p.1 room
+  message-good env (Message.Mark centre era upto) e h from belongs =
+      let said : (0 < upto) × (are_heard (facts_of h.old env.from) centre era upto ≡ true) = subst (λ z. Says cluster h.old env.from z) e h.says in
+      λ room. mark-good IsSound (sound-well law).shut cluster es a volatile up h.old env.from centre era upto h.tail from belongs said.1
+  message-good env (Message.Finished t) e h from belongs = λ room. finished-good IsSound (sound-well law).shut cluster es a volatile up t
   message-good env (Message.ClientRead n k) e h from belongs = nothing
   message-good env (Message.ClientBegin n ps) e h from belongs = nothing
   message-good env (Message.ClientAnswer n x) e h from belongs = nothing
@@ -261,5 +270,6 @@ full-good law = record {
     by_input : (cluster : Cluster) (es : List Entry) (a : ℕ) (volatile : Volatile) → IsUp IsSound cluster es a volatile → (input : Input) → IsFair cluster es input → IsGood cluster IsSound es a (step_of (here cluster a (facts_of es a)) volatile input)
     by_input cluster es a volatile up (Input.Message env) fair = received-good law cluster es a volatile up env fair
     by_input cluster es a volatile up Input.Tick fair = (tick-part law cluster es a volatile up).good
+    by_input cluster es a volatile up Input.Sweep fair = sweep-good IsSound (sound-well law).shut cluster es a volatile up
     by_input cluster es a volatile up (Input.Read key) fair = nothing-good IsSound cluster es a volatile volatile up up.keeps
     by_input cluster es a volatile up (Input.Begin parts) fair = begin-good IsSound (sound-well law).shut cluster es a volatile parts up fair

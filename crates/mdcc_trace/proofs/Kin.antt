@@ -1,6 +1,6 @@
 -- What the reports of a quorum have of a mark that is chosen below their ballot.
 use Rattle.std.proofs.Common.{Bool, List, None, Option, Some, [], ap, arith, cond, false, inl, inr, length, not, refl, subst, suc, sym, true, zero, ℕ, ◌&&◌, ◌+◌, ◌<◌, ◌==◌, ◌∙◌, ◌∷◌, ◌≡◌, ◌≤◌, ◌⊎◌}
-use Rattle.std.specs.Prelude.{fold, is_some, nat_le, nat_lt}
+use Rattle.std.specs.Prelude.{fold, is_some, map, nat_le, nat_lt}
 use Rattle.std.specs.Option.{option_or}
 use Rattle.std.specs.List.{list_any, range_with_len}
 use Rattle.std.proofs.lemmas.Bool.{and_from, and_parts, cases_Bool, eqb-false, eqb-true, ltb-true, not-true, or_cases, or_parts, true≢false}
@@ -39,6 +39,7 @@ fact-votes : (cluster : Cluster) (es : List Entry) (c : ℕ) (f : Fact) (k : Key
 fact-votes cluster es c (Fact.Booted n) k v m b legal classic promised below = refl
 fact-votes cluster es c (Fact.Promised j lo hi n) k v m b legal classic promised below = refl
 fact-votes cluster es c (Fact.Heard t o) k v m b legal classic promised below = refl
+fact-votes cluster es c (Fact.Floor origin era upto) k v m b legal classic promised below = refl
 fact-votes cluster es c (Fact.Adopted j w it ds) k v m b legal classic promised below = refl
 fact-votes cluster es c (Fact.Voted j w n os off) k v m b legal classic promised below =
     elim (cases_Bool (w == v && ballot_eq n b && key_eq j k)) [
@@ -83,6 +84,7 @@ has-promise (f ∷ fs) k v m h =
     new : (f : Fact) → has_promised_in k v m f ≡ true → ballot_lt (ballot_promised k v f) m ≡ false
     new (Fact.Booted n) g = absurd (cc)
     new (Fact.Heard t o) g = absurd (cc)
+    new (Fact.Floor origin era upto) g = absurd (cc)
     new (Fact.Adopted j w it ds) g = absurd (cc)
     new (Fact.Voted j w b os off) g = absurd (cc)
     new (Fact.Promised j lo hi b) g =
@@ -99,6 +101,7 @@ last-ge (f ∷ fs) k v m b t x below h = by_case (λ g. last-ge fs k v m b t x b
     new : (f : Fact) → value_of (marks_voted k v b f) t ≡ Some x → ballot_lt (ballot_voted k v m f) b ≡ false
     new (Fact.Booted n) g = absurd (cc)
     new (Fact.Heard u o) g = absurd (cc)
+    new (Fact.Floor origin era upto) g = absurd (cc)
     new (Fact.Adopted j w it ds) g = absurd (cc)
     new (Fact.Promised j lo hi n) g = absurd (cc)
     new (Fact.Voted j w n os off) g =
@@ -135,6 +138,7 @@ last-mark cluster (Added c f ∷ es) a k v m b legal classic h =
     new : (f : Fact) → IsAllowed cluster (Added c f ∷ es) → ballot_voted k v m f ≡ b → (t : TxId) × (x : Mark) × (value_of (votes_of (f ∷ facts_of es a) k v b) t ≡ Some x)
     new (Fact.Booted n) l g = absurd (true≢false (sym ((Decides-ballot b fast_ballot).1 (sym g)) ∙ classic))
     new (Fact.Heard u o) l g = absurd (true≢false (sym ((Decides-ballot b fast_ballot).1 (sym g)) ∙ classic))
+    new (Fact.Floor origin era upto) l g = absurd (true≢false (sym ((Decides-ballot b fast_ballot).1 (sym g)) ∙ classic))
     new (Fact.Adopted j w it ds) l g = absurd (true≢false (sym ((Decides-ballot b fast_ballot).1 (sym g)) ∙ classic))
     new (Fact.Promised j lo hi n) l g = absurd (true≢false (sym ((Decides-ballot b fast_ballot).1 (sym g)) ∙ classic))
     new (Fact.Voted j w n os off) l g =
@@ -206,20 +210,26 @@ top-there rs = fold-there rs fast_ballot
 
 -- ---- the marks reported, where all that have one agree
 
+joined-agree : (t : TxId) (x : Mark) (acc os : Options) → ((y : Mark) → value_of acc t ≡ Some y → y ≡ x) → ((y : Mark) → value_of os t ≡ Some y → y ≡ x) → (y : Mark) → value_of (union acc os) t ≡ Some y → y ≡ x
+joined-agree t x acc os agree more y h = pick (value_of acc t) refl (sym (value_of-union acc os t) ∙ h)
+  where
+    pick : (o : Option Mark) → value_of acc t ≡ o → option_or (value_of acc t) (value_of os t) ≡ Some y → y ≡ x
+    pick None e g = more y (let i : value_of os t ≡ Some y = rw e at g in i)
+    pick (Some z) e g = agree y (let i : Some z ≡ Some y = rw e at g in e ∙ i)
+
+pub reported-only : (rs : List Report) (t : TxId) (x : Mark) (acc : Options) → ((y : Mark) → value_of acc t ≡ Some y → y ≡ x) → ((r : Report) (y : Mark) → In r rs → value_of r.votes t ≡ Some y → y ≡ x) →
+    (y : Mark) → value_of (fold (λ marks (r : Report). union marks r.votes) acc rs) t ≡ Some y → y ≡ x
+reported-only [] t x acc agree all y h = agree y h
+reported-only (r ∷ rs) t x acc agree all y h = reported-only rs t x (union acc r.votes) (joined-agree t x acc r.votes agree (λ z g. all r z (inl refl) g)) (λ q z i g. all q z (inr i) g) y h
+
 pub reported-one : (rs : List Report) (t : TxId) (x : Mark) (acc : Options) → ((y : Mark) → value_of acc t ≡ Some y → y ≡ x) → ((r : Report) (y : Mark) → In r rs → value_of r.votes t ≡ Some y → y ≡ x) →
     (value_of acc t ≡ Some x) ⊎ ((r : Report) × (In r rs) × (value_of r.votes t ≡ Some x)) → value_of (fold (λ marks (r : Report). union marks r.votes) acc rs) t ≡ Some x
 reported-one [] t x acc agree all some = elim some [ inl e ↦ e | inr r ↦ absurd r.1 ]
-reported-one (r ∷ rs) t x acc agree all some = reported-one rs t x (union acc r.votes) both (λ q y i h. all q y (inr i) h) next
+reported-one (r ∷ rs) t x acc agree all some =
+    reported-one rs t x (union acc r.votes) (joined-agree t x acc r.votes agree (λ z g. all r z (inl refl) g)) (λ q y i h. all q y (inr i) h) next
   where
     join : value_of (union acc r.votes) t ≡ option_or (value_of acc t) (value_of r.votes t)
     join = value_of-union acc r.votes t
-
-    both : (y : Mark) → value_of (union acc r.votes) t ≡ Some y → y ≡ x
-    both y h = pick (value_of acc t) refl (sym join ∙ h)
-      where
-        pick : (o : Option Mark) → value_of acc t ≡ o → option_or (value_of acc t) (value_of r.votes t) ≡ Some y → y ≡ x
-        pick None e g = all r y (inl refl) (let i : value_of r.votes t ≡ Some y = rw e at g in i)
-        pick (Some z) e g = agree y (let i : Some z ≡ Some y = rw e at g in e ∙ i)
 
     here : value_of r.votes t ≡ Some x → value_of (union acc r.votes) t ≡ Some x
     here h = pick (value_of acc t) refl
@@ -264,8 +274,16 @@ any-not a (x ∷ xs) h b i e =
     let p = or_parts (a == x) (list_any (λ b. a == b) xs) h in
     elim i [ inl s ↦ eqb-false a x p.0 (e ∙ s) | inr r ↦ any-not a xs p.1 b r e ]
 
-pub ids-differ : (p : ℕ → Bool) (xs : List ℕ) → are_distinct xs ≡ true → AllDiffer p (λ a. a) xs
-ids-differ p [] h = tt
-ids-differ p (x ∷ xs) h =
-    let r = and_parts (not (list_any (λ b. x == b) xs)) (are_distinct xs) h in
-    (Each-from (λ y. p x ≡ true → p y ≡ true → x ≡ y → ⊥) xs (λ y i u w e. any-not x xs (not-true _ r.0) y i e), ids-differ p xs r.1)
+pub place-in : {A : Type 0} (place : A → ℕ) (xs : List A) (x : A) → In x xs → In (place x) (map place xs)
+place-in place [] x i = absurd i
+place-in place (y ∷ ys) x i = elim i [ inl s ↦ inl (ap place s) | inr r ↦ inr (place-in place ys x r) ]
+
+pub from-place : {A : Type 0} (place : A → ℕ) (xs : List A) (a : ℕ) → In a (map place xs) → (x : A) × (In x xs) × (a ≡ place x)
+from-place place [] a i = absurd i
+from-place place (x ∷ xs) a i = elim i [ inl s ↦ (x, inl refl, s) | inr r ↦ let q = from-place place xs a r in (q.0, inr q.1, q.2) ]
+
+pub places-differ : {A : Type 0} (p : A → Bool) (place : A → ℕ) (xs : List A) → are_distinct (map place xs) ≡ true → AllDiffer p place xs
+places-differ p place [] h = tt
+places-differ {A = A} p place (x ∷ xs) h =
+    let r = and_parts (not (list_any (λ b. place x == b) (map place xs))) (are_distinct (map place xs)) h in
+    (Each-from (λ (y : A). p x ≡ true → p y ≡ true → place x ≡ place y → ⊥) xs (λ y i u w e. any-not (place x) (map place xs) (not-true _ r.0) (place y) (place-in place xs y i) e), places-differ p place xs r.1)

@@ -105,6 +105,7 @@ manager-part also well cluster es a v up =
         votes = up.keeps.manager.votes;
       };
       recovery = up.keeps.recovery;
+      told = up.keeps.told;
       leader = up.keeps.leader;
     }
 

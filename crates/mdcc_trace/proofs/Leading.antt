@@ -131,13 +131,14 @@ valued-kept cluster es a l x y w os legal h g key k = record {
 any-more : (f : Fact) (fs : List Fact) (k : Key) (v : ℕ) (m : Ballot) → list_any (has_promised_in k v m) fs ≡ true → list_any (has_promised_in k v m) (f ∷ fs) ≡ true
 any-more f fs k v m h = or_right (has_promised_in k v m f) (list_any (has_promised_in k v m) fs) h
 
-through-any : (fs : List Fact) (k : Key) (low high : ℕ) (m : Ballot) (v : ℕ) → promised_through fs k low m ≡ Some high → low ≤ v → v ≤ high → list_any (has_promised_in k v m) fs ≡ true
+pub through-any : (fs : List Fact) (k : Key) (low high : ℕ) (m : Ballot) (v : ℕ) → promised_through fs k low m ≡ Some high → low ≤ v → v ≤ high → list_any (has_promised_in k v m) fs ≡ true
 through-any [] k low high m v h x y = absurd (cc)
 through-any (f ∷ fs) k low high m v h x y = by_case (λ g. through-any fs k low high m v g x y) (promised_through fs k low m) refl h
   where
     new : (f : Fact) → range_promised k low m f ≡ Some high → has_promised_in k v m f ≡ true
     new (Fact.Booted n) g = absurd (cc)
     new (Fact.Heard t o) g = absurd (cc)
+    new (Fact.Floor origin era upto) g = absurd (cc)
     new (Fact.Adopted j w it ds) g = absurd (cc)
     new (Fact.Voted j w b os off) g = absurd (cc)
     new (Fact.Promised j lo hi b) g =

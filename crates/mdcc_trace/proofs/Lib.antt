@@ -1,5 +1,6 @@
 pub mod Claiming
 pub mod Claims
+pub mod Finished
 pub mod Full
 pub mod Kin
 pub mod Lasting

@@ -1,8 +1,8 @@
 -- A structure that a leader makes holds only sound marks.
-use Rattle.std.proofs.Common.{Bool, List, None, Option, Some, [], ap, arith, cond, false, inl, inr, length, refl, subst, sym, true, ℕ, ◌&&◌, ◌==◌, ◌∙◌, ◌∷◌, ◌≡◌, ◌≤◌}
+use Rattle.std.proofs.Common.{Bool, List, None, Option, Some, [], ap, arith, cond, false, inl, inr, length, not, refl, subst, sym, true, ℕ, ◌&&◌, ◌==◌, ◌∙◌, ◌∷◌, ◌≡◌, arith}
 use Rattle.std.specs.Prelude.{filter, filter_map, find, fold, is_some, map, nat_le, option_map}
 use Rattle.std.specs.Option.{option_or}
-use Rattle.std.specs.List.{cons_option, list_any}
+use Rattle.std.specs.List.{AllByRecursion, cons_option, list_any}
 use Rattle.std.proofs.lemmas.Bool.{and_from, cases_Bool, eq-eqb, or_left, or_right}
 use Rattle.mdcc_base.specs.declared.identifiers.Ballot.{Ballot}
 use Rattle.mdcc_base.specs.declared.key.Key.{Key}
@@ -21,11 +21,11 @@ use Rattle.mdcc_struct.specs.declared.report.Report.{Report}
 use Rattle.mdcc_struct.specs.Forced.{ballot_reported, forced_of, marks_reported, reports_with}
 use Rattle.mdcc_protocol.specs.Marks.{choice_in}
 use Rattle.mdcc_messages.specs.declared.facts.Fact.{Fact}
-use Rattle.mdcc_protocol.specs.Facts.{last_ballot, marks_voted, report_of, votes_of}
+use Rattle.mdcc_protocol.specs.Facts.{is_forgotten, is_settled, last_ballot, marks_voted, report_of, shown_of, votes_of}
 use Rattle.mdcc_protocol.specs.Structures.{all_claims, choices_reported, first_structure, is_accepted, is_left_out, mark_of_choice, with_choice, with_claim}
 use Rattle.mdcc_ledger.specs.Ledger.{Entry, choices_begun, facts_of}
 use Rattle.mdcc_ledger.specs.AllowedLedgers.{IsAllowed}
-use Rattle.mdcc_ledger.specs.AllowedStructures.{are_begun, is_begun, is_own_mark, reports_at}
+use Rattle.mdcc_ledger.specs.AllowedStructures.{IsReport, are_begun, centres_of, is_begun, is_own_mark}
 use Rattle.mdcc_protocol.specs.Leader.{reports_of}
 use Rattle.mdcc_protocol.specs.Volatile.{Counted}
 use Rattle.mdcc_trace_states.specs.Words.{Each, In}
@@ -36,7 +36,9 @@ use Rattle.mdcc_trace_states.proofs.Maps.{each-union, is_some-none, tx-true, val
 use Rattle.mdcc_trace_states.proofs.Ledgers.{In-any, mark-tail}
 use Rattle.mdcc_trace_rules.proofs.Deciding.{begun-tx}
 use Rattle.mdcc_trace_rules.proofs.Chains.{HasOnce, once-at, once-union}
-use Rattle.mdcc_trace_rules.proofs.Promises.{report-kept, through-promise}
+use Rattle.mdcc_trace_rules.proofs.Syncs.{later}
+use Rattle.mdcc_trace.proofs.Finished.{shown-voted}
+use Rattle.mdcc_trace.proofs.Leading.{through-any}
 use Rattle.mdcc_trace.proofs.Safety.{votes-told}
 use Rattle.mdcc_trace_states.proofs.Tests.{Decides-tx, Decides-key}
 use Rattle.mdcc_base.specs.Key.{key_eq}
@@ -61,7 +63,7 @@ pub sound-claim : (cluster : Cluster) (facts : List Fact) (es : List Entry) (k :
 sound-claim cluster facts es k v os e h c =
     elim (cases_Bool (is_some (value_of os e.0))) [
       | inl g ↦ rw g h
-      | inr g ↦ rw g (elim (cases_Bool (is_left_out os (mark_of_choice cluster facts k v os e.1))) [ inl f ↦ rw f h | inr f ↦ rw f (new (is_some-none _ g)) ])
+      | inr g ↦ rw g (elim (cases_Bool (is_settled facts e.0)) [ inl q ↦ rw q h | inr q ↦ rw q (elim (cases_Bool (is_left_out os (mark_of_choice cluster facts k v os e.1))) [ inl f ↦ rw f h | inr f ↦ rw f (new (is_some-none _ g)) ]) ])
     ]
   where
     new : value_of os e.0 ≡ None → (t : TxId) (m : Mark) → value_of (inserted os (e.0, mark_of_choice cluster facts k v os e.1)) t ≡ Some m → IsSoundMark es k v t m
@@ -177,18 +179,34 @@ once-votes : (fs : List Fact) (k : Key) (v : ℕ) (b : Ballot) → HasOnce (vote
 once-votes [] k v b = tt
 once-votes (f ∷ fs) k v b = once-union (votes_of fs k v b) (marks_voted k v b f) (once-votes fs k v b)
 
-votes-are : (fs : List Fact) (k : Key) (v : ℕ) (b c : Ballot) (os : Options) → is_fast b ≡ false → report_of 0 fs k v b ≡ record { centre = 0; ballot = c; votes = os } → votes_of fs k v c ≡ os
+votes-are : (fs : List Fact) (k : Key) (v : ℕ) (b c : Ballot) (os : Options) → is_fast b ≡ false → report_of 0 fs k v b ≡ record { centre = 0; ballot = c; votes = os } → shown_of fs k v c ≡ os
 votes-are fs k v b c os classic h =
     let l : (report_of 0 fs k v b).ballot ≡ c = ap (λ (z : Report). z.ballot) h in
-    let w : votes_of fs k v (last_ballot fs k v b) ≡ os = sym (votes-told 0 fs k v b classic) ∙ ap (λ (z : Report). z.votes) h in
-    subst (λ z. votes_of fs k v z ≡ os) l w
+    let w : shown_of fs k v (last_ballot fs k v b) ≡ os = sym (votes-told 0 fs k v b classic) ∙ ap (λ (z : Report). z.votes) h in
+    subst (λ z. shown_of fs k v z ≡ os) l w
+
+pub once-filter : (p : TxId × Mark → Bool) (os : Options) → HasOnce os → HasOnce (filter p os)
+once-filter p [] h = tt
+once-filter p (e ∷ os) h =
+    elim (cases_Bool (p e)) [
+      | inl q ↦ rw q (gone os e.0 h.0, once-filter p os h.1)
+      | inr q ↦ rw q (once-filter p os h.1)
+    ]
+  where
+    gone : (xs : Options) (t : TxId) → value_of xs t ≡ None → value_of (filter p xs) t ≡ None
+    gone [] t g = refl
+    gone (x ∷ xs) t g =
+        elim (cases_Bool (tx_eq x.0 t)) [
+          | inl s ↦ let bad : Some x.1 ≡ None = rw s at g in absurd (cc)
+          | inr s ↦ let rest : value_of xs t ≡ None = rw s at g in elim (cases_Bool (p x)) [ inl q ↦ rw q (rw s (gone xs t rest)) | inr q ↦ rw q (gone xs t rest) ]
+        ]
 
 pub promise-report : (cluster : Cluster) (es : List Entry) (k : Key) (v : ℕ) (b : Ballot) (p : Counted) → is_fast b ≡ false → IsSound es → IsPromise cluster es k v b p → IsGoodReport es k v (record { centre = p.from; ballot = p.reported; votes = p.votes })
 promise-report cluster es k v b p classic sound h =
     let same = votes-are (facts_of h.old p.from) k v b p.reported p.votes classic h.report in
     record {
-      once = subst HasOnce same (once-votes (facts_of h.old p.from) k v p.reported);
-      sound = λ t m i. sound.votes k v p.reported t p.from m (mark-tail h.old es k v p.reported t p.from m h.tail (subst (λ z. value_of z t ≡ Some m) (sym same) i));
+      once = subst HasOnce same (once-filter (λ (e : TxId × Mark). not (is_forgotten (facts_of h.old p.from) k v e.0)) (votes_of (facts_of h.old p.from) k v p.reported) (once-votes (facts_of h.old p.from) k v p.reported));
+      sound = λ t m i. sound.votes k v p.reported t p.from m (mark-tail h.old es k v p.reported t p.from m h.tail (shown-voted (facts_of h.old p.from) k v p.reported t m (subst (λ z. value_of z t ≡ Some m) (sym same) i)));
     }
 
 pub reports-good : (cluster : Cluster) (es : List Entry) (k : Key) (v : ℕ) (b : Ballot) (ps : List Counted) → is_fast b ≡ false → IsSound es → Each (IsPromise cluster es k v b) ps → Each (IsGoodReport es k v) (reports_of ps)
@@ -202,14 +220,26 @@ report-again : (a : ℕ) (fs : List Fact) (k : Key) (v : ℕ) (b c : Ballot) (os
 unfolding report-made
 report-again a fs k v b c os h = ap (report-made a) (sym h)
 
--- they are the reports of now
-pub reports-now : (cluster : Cluster) (es : List Entry) (k : Key) (v : ℕ) (b : Ballot) (ps : List Counted) → IsAllowed cluster es → Each (IsPromise cluster es k v b) ps → Each (λ (p : Counted). v ≤ p.through) ps → reports_of ps ≡ reports_at es k v b (map (λ (p : Counted). p.from) ps)
-reports-now cluster es k v b [] legal h g = refl
-reports-now cluster es k v b (p ∷ ps) legal h g =
-    let promised = through-promise (facts_of h.0.old p.from) k v p.through b v h.0.promised (omega arith) g.0 in
-    let kept = report-kept cluster h.0.old es p.from k v b legal h.0.tail promised in
-    let one : ◌≡◌ {A = Report} (record { centre = p.from; ballot = p.reported; votes = p.votes }) (report_of p.from (facts_of es p.from) k v b) = report-again p.from (facts_of es p.from) k v b p.reported p.votes (kept.0 ∙ h.0.report) in
-    let rest = reports-now cluster es k v b ps legal h.1 g.1 in cc
+-- they are reports, each as it was when its promise was made
+pub reports-told : (cluster : Cluster) (es : List Entry) (k : Key) (v : ℕ) (b : Ballot) (ps : List Counted) → Each (IsPromise cluster es k v b) ps → AllByRecursion (IsReport es k v b) (reports_of ps)
+reports-told cluster es k v b [] h = tt
+reports-told cluster es k v b (p ∷ ps) h =
+    let l = later h.0.old es h.0.tail in (
+      (
+        l.0,
+        h.0.old,
+        record {
+          parts = l.1;
+          promised = through-any (facts_of h.0.old p.from) k v p.through b v h.0.promised (omega arith) h.0.reach;
+          same = report-again p.from (facts_of h.0.old p.from) k v b p.reported p.votes h.0.report;
+        },
+      ),
+      reports-told cluster es k v b ps h.1,
+    )
+
+pub centres-told : (ps : List Counted) → map (λ (p : Counted). p.from) ps ≡ centres_of (reports_of ps)
+centres-told [] = refl
+centres-told (p ∷ ps) = ap (λ z. p.from ∷ z) (centres-told ps)
 
 -- ---- the choices that are accepted are begun
 

@@ -1,7 +1,8 @@
 -- A message that tells the truth is of the cluster.
-use Rattle.std.proofs.Common.{Bool, List, Option, Some, [], ap, arith, inl, inr, length, map, refl, subst, sym, true, ℕ, ◌&&◌, ◌<◌, ◌==◌, ◌∙◌, ◌∷◌, ◌≡◌}
-use Rattle.std.specs.List.{list_any}
-use Rattle.std.proofs.lemmas.Bool.{and_from, and_parts, or_cases, or_right}
+use Rattle.std.proofs.Common.{Bool, List, None, Option, Some, [], ap, arith, false, inl, inr, length, map, not, refl, subst, sym, true, ℕ, ◌&&◌, ◌<◌, ◌==◌, ◌∙◌, ◌∷◌, ◌≡◌}
+use Rattle.std.specs.List.{list_all, list_any}
+use Rattle.std.specs.Prelude.{filter, nat_le, nat_lt}
+use Rattle.std.proofs.lemmas.Bool.{and_from, and_parts, cases_Bool, leb-true, ltb-true, or_cases, or_right, true≢false}
 use Rattle.mdcc_base.specs.AreQuorums.{AreQuorums}
 use Rattle.mdcc_base.specs.Ballot.{ballot_eq, is_fast}
 use Rattle.mdcc_base.specs.Key.{key_eq}
@@ -19,20 +20,23 @@ use Rattle.mdcc_struct.specs.declared.report.Report.{Report}
 use Rattle.mdcc_ledger.specs.AllowedLedgers.{IsAllowed, is_valued, is_valued_as}
 use Rattle.mdcc_ledger.specs.AllowedStructures.{are_begun, is_begun, is_own_mark}
 use Rattle.mdcc_protocol.specs.Belongs.{adds_belong, amounts_belong, ballot_belongs, cause_belongs, choice_belongs, is_centre, item_belongs, mark_belongs, message_belongs, options_belong, outcome_belongs, tx_belongs, update_belongs}
-use Rattle.mdcc_protocol.specs.Facts.{current_of, last_ballot, votes_of}
+use Rattle.mdcc_protocol.specs.Facts.{current_of, floor_of, heard_of, is_forgotten, is_heard, last_ballot, shown_of, votes_of}
 use Rattle.mdcc_ledger.specs.Ledger.{Added, Entry, Valued, choices_begun, chosen_of, facts_of, outcome_of}
 use Rattle.mdcc_protocol.specs.Marks.{Amounts, options_eq}
 use Rattle.mdcc_messages.specs.declared.messages.Message.{Message}
 use Rattle.mdcc_trace_states.specs.Words.{Each, In}
 use Rattle.mdcc_trace_states.specs.MessageMeaning.{Says}
 use Rattle.mdcc_trace_states.proofs.Belonging.{AreOf, IsDeltaOf, base-belongs, begun-belong, deltas-belong, each-all, facts-belong, given-belongs, last-belongs, through-belongs, votes-belong}
-use Rattle.mdcc_trace_states.proofs.Ledgers.{any-In}
+use Rattle.mdcc_trace_states.proofs.Ledgers.{Allowed-tail, any-In}
 use Rattle.mdcc_trace_states.proofs.Lists.{Each-at, Each-map}
 use Rattle.mdcc_trace_states.proofs.Maps.{tx-true}
 use Rattle.mdcc_trace_states.proofs.Tests.{Decides-ballot, Decides-options}
 use Rattle.mdcc_trace_rules.proofs.Chosen.{chosen-given, chosen-to}
 use Rattle.mdcc_trace_rules.proofs.Deciding.{begun-tx, outcome-belongs}
 use Rattle.mdcc_trace_rules.proofs.Outcomes.{outcome-begun}
+use Rattle.mdcc_trace_rules.proofs.Floors.{floor-heard}
+use Rattle.mdcc_trace_rules.proofs.Votings.{was-outcome}
+use Rattle.mdcc_trace.proofs.Finished.{heard-one}
 use Rattle.mdcc_trace.proofs.Safety.{votes-told}
 
 -- ---- begun choices
@@ -117,6 +121,22 @@ adds-of : (cluster : Cluster) (adds : List Delta) → Each (λ (e : TxId × Amou
 adds-of cluster [] h = refl
 adds-of cluster (d ∷ ds) h = and_from (tx_belongs cluster d.tx && amounts_belong cluster d.amounts) (adds_belong cluster ds) h.0 (adds-of cluster ds h.1)
 
+all-filter : {A : Type 0} (p q : A → Bool) (xs : List A) → list_all q xs ≡ true → list_all q (filter p xs) ≡ true
+all-filter p q [] h = refl
+all-filter p q (x ∷ xs) h =
+    let r = and_parts (q x) (list_all q xs) h in
+    elim (cases_Bool (p x)) [ inl e ↦ rw e (and_from (q x) _ r.0 (all-filter p q xs r.1)) | inr e ↦ rw e (all-filter p q xs r.1) ]
+
+-- a transaction that was heard is of the cluster
+heard-belongs : (cluster : Cluster) → AreQuorums cluster.quorums → (es : List Entry) (a : ℕ) (t : TxId) → IsAllowed cluster es → is_heard (facts_of es a) t ≡ true → tx_belongs cluster t ≡ true
+heard-belongs cluster sizes es a t legal h = by_case (heard_of (facts_of es a) t) refl
+  where
+    by_case : (o : Option Outcome) → heard_of (facts_of es a) t ≡ o → tx_belongs cluster t ≡ true
+    by_case None e = let bad : is_heard (facts_of es a) t ≡ false = rw e refl in absurd (true≢false (sym h ∙ bad))
+    by_case (Some o) e =
+        let w = was-outcome cluster es a t o legal e in
+        (outcome-of cluster sizes w.old t o (Allowed-tail cluster w.old es w.tail legal) w.outcome).0
+
 pub own : (cluster : Cluster) → AreQuorums cluster.quorums → (es : List Entry) (a : ℕ) (m : Message) → IsAllowed cluster es → is_centre cluster a ≡ true → Says cluster es a m → message_belongs cluster m ≡ true
 own cluster sizes es a (Message.Propose c) legal here h = begun-of cluster es c.tx c legal (any-In c (choices_begun es c.tx) h)
 own cluster sizes es a (Message.Lead c) legal here h = begun-of cluster es c.tx c legal (any-In c (choices_begun es c.tx) h)
@@ -128,7 +148,8 @@ own cluster sizes es a (Message.Prepare k v w b) legal here h = or_right (is_fas
 own cluster sizes es a (Message.Promise k v w b r os) legal here h =
     and_from (ballot_belongs cluster b && ballot_belongs cluster r) (options_belong cluster os)
     (and_from (ballot_belongs cluster b) (ballot_belongs cluster r) (through-belongs cluster (facts_of es a) k v b w facts h.0) (subst (λ z. ballot_belongs cluster z ≡ true) reported (last-belongs cluster (facts_of es a) k v b facts)))
-    (subst (λ z. options_belong cluster z ≡ true) voted (each-all (λ (e : TxId × Mark). tx_belongs cluster e.0 && mark_belongs cluster e.1) (votes_of (facts_of es a) k v (last_ballot (facts_of es a) k v b)) (votes-belong cluster (facts_of es a) k v (last_ballot (facts_of es a) k v b) facts)))
+    (subst (λ z. options_belong cluster z ≡ true) voted (all-filter (λ (e : TxId × Mark). not (is_forgotten (facts_of es a) k v e.0)) (λ (e : TxId × Mark). tx_belongs cluster e.0 && mark_belongs cluster e.1) (votes_of (facts_of es a) k v (last_ballot (facts_of es a) k v b))
+    (each-all (λ (e : TxId × Mark). tx_belongs cluster e.0 && mark_belongs cluster e.1) (votes_of (facts_of es a) k v (last_ballot (facts_of es a) k v b)) (votes-belong cluster (facts_of es a) k v (last_ballot (facts_of es a) k v b) facts))))
   where
     facts : AreOf cluster (facts_of es a)
     facts = facts-belong cluster es a legal
@@ -136,7 +157,7 @@ own cluster sizes es a (Message.Promise k v w b r os) legal here h =
     reported : last_ballot (facts_of es a) k v b ≡ r
     reported = ap (λ (z : Report). z.ballot) h.2
 
-    voted : votes_of (facts_of es a) k v (last_ballot (facts_of es a) k v b) ≡ os
+    voted : shown_of (facts_of es a) k v (last_ballot (facts_of es a) k v b) ≡ os
     voted = sym (votes-told 0 (facts_of es a) k v b h.3) ∙ ap (λ (z : Report). z.votes) h.2
 own cluster sizes es a (Message.Accept k v b os) legal here h = let g = valued-of cluster es k v b os legal h.1 in and_from (ballot_belongs cluster b) (options_belong cluster os) g.0 g.1
 own cluster sizes es a (Message.SyncGive k v item adds) legal here h =
@@ -147,6 +168,11 @@ own cluster sizes es a (Message.Escalate k v t cause) legal here h = and_from (t
 own cluster sizes es a (Message.Refused k v b p) legal here h = and_from (ballot_belongs cluster b) (ballot_belongs cluster p) h.0 h.1
 own cluster sizes es a (Message.Ask t k v) legal here h = h
 own cluster sizes es a (Message.SyncAsk k) legal here h = refl
+own cluster sizes es a (Message.Mark centre era upto) legal here h =
+    heard-belongs cluster sizes es a (record { centre = centre; epoch = era; seq = upto }) legal (heard-one (facts_of es a) (record { centre = centre; epoch = era; seq = upto }) upto h.0 (omega arith) h.1)
+own cluster sizes es a (Message.Finished t) legal here h =
+    let p = and_parts (nat_lt 0 t.seq) (nat_le t.seq (floor_of (facts_of es a) t.centre t.epoch)) h in
+    heard-belongs cluster sizes es a t legal (heard-one (facts_of es a) t (floor_of (facts_of es a) t.centre t.epoch) (ltb-true 0 t.seq p.0) (leb-true t.seq _ p.1) (floor-heard cluster es a t.centre t.epoch legal))
 own cluster sizes es a (Message.ClientRead n k) legal here h = absurd h
 own cluster sizes es a (Message.ClientBegin n ps) legal here h = absurd h
 own cluster sizes es a (Message.ClientAnswer n x) legal here h = absurd h

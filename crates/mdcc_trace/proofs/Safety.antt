@@ -1,5 +1,5 @@
 -- One mark: a mark that is chosen is in every structure above its ballot.
-use Rattle.std.proofs.Common.{Bool, List, Option, [], ap, arith, false, inl, inr, length, refl, subst, suc, sym, true, zero, ℕ, ◌+◌, ◌<◌, ◌==◌, ◌∙◌, ◌∷◌, ◌≡◌, ◌≤◌}
+use Rattle.std.proofs.Common.{Bool, List, Option, [], arith, false, inl, inr, length, refl, subst, suc, sym, true, zero, ℕ, ◌+◌, ◌<◌, ◌==◌, ◌∙◌, ◌∷◌, ◌≡◌, ◌≤◌}
 use Rattle.std.specs.Prelude.{filter, fold}
 use Rattle.std.specs.List.{list_all, list_any, range_with_len}
 use Rattle.std.proofs.lemmas.Bool.{and_parts, cases_Bool, eq-eqb, eqb-true, or_cases, or_left, or_right, true≢false}
@@ -10,12 +10,9 @@ use Rattle.mdcc_base.specs.declared.identifiers.TxId.{TxId}
 use Rattle.mdcc_option.specs.declared.choices.Choice.{Choice}
 use Rattle.mdcc_option.specs.declared.cluster.Cluster.{Cluster}
 use Rattle.mdcc_struct.specs.declared.options.Options.{Options}
-use Rattle.mdcc_struct.specs.declared.report.Report.{Report}
 use Rattle.mdcc_messages.specs.declared.facts.Fact.{Fact}
-use Rattle.mdcc_protocol.specs.Facts.{last_ballot, report_of, votes_of}
+use Rattle.mdcc_protocol.specs.Facts.{last_ballot, report_of, shown_of}
 use Rattle.mdcc_protocol.specs.Structures.{with_claim}
-use Rattle.mdcc_ledger.specs.Ledger.{Entry, facts_of}
-use Rattle.mdcc_ledger.specs.AllowedStructures.{reports_at}
 use Rattle.mdcc_trace_states.specs.Words.{In, IsTail, count}
 use Rattle.mdcc_trace_states.proofs.Lists.{IsTail-same}
 use Rattle.mdcc_trace_rules.specs.Laws.{Extends}
@@ -49,27 +46,11 @@ pub in-range-bounds : (s n a : ℕ) → In a (range_with_len s n) → (s ≤ a) 
 in-range-bounds s zero a i = absurd i
 in-range-bounds s (suc n) a i = elim i [ inl e ↦ (omega (arith, e), omega (arith, e)) | inr r ↦ let b = in-range-bounds (s + 1) n a r in (omega (arith, b.0), omega (arith, b.1)) ]
 
-pub in-reports : (es : List Entry) (k : Key) (v : ℕ) (m : Ballot) (as' : List ℕ) (a : ℕ) → In a as' → In (report_of a (facts_of es a) k v m) (reports_at es k v m as')
-in-reports es k v m [] a i = absurd i
-in-reports es k v m (b ∷ bs) a i = elim i [ inl s ↦ inl (ap (λ z. report_of z (facts_of es z) k v m) s) | inr r ↦ inr (in-reports es k v m bs a r) ]
-
-pub of-reports : (es : List Entry) (k : Key) (v : ℕ) (m : Ballot) (as' : List ℕ) (r : Report) → In r (reports_at es k v m as') → (a : ℕ) × (In a as') × (r ≡ report_of a (facts_of es a) k v m)
-of-reports es k v m [] r i = absurd i
-of-reports es k v m (b ∷ bs) r i = elim i [ inl s ↦ (b, inl refl, s) | inr j ↦ let g = of-reports es k v m bs r j in (g.0, inr g.1, g.2) ]
-
-pub length-reports : (es : List Entry) (k : Key) (v : ℕ) (m : Ballot) (as' : List ℕ) → length (reports_at es k v m as') ≡ length as'
-length-reports es k v m [] = refl
-length-reports es k v m (b ∷ bs) = omega (arith, length-reports es k v m bs)
-
--- above the fast ballot a centre reports its votes
-pub votes-told : (a : ℕ) (fs : List Fact) (k : Key) (v : ℕ) (m : Ballot) → is_fast m ≡ false → (report_of a fs k v m).votes ≡ votes_of fs k v (last_ballot fs k v m)
+-- above the fast ballot a centre reports the votes that it shows
+pub votes-told : (a : ℕ) (fs : List Fact) (k : Key) (v : ℕ) (m : Ballot) → is_fast m ≡ false → (report_of a fs k v m).votes ≡ shown_of fs k v (last_ballot fs k v m)
 votes-told a fs k v m classic = rw classic refl
 
-pub count-reports : (es : List Entry) (k : Key) (v : ℕ) (m : Ballot) (p : Report → Bool) (as' : List ℕ) → count p (reports_at es k v m as') ≡ count (λ a. p (report_of a (facts_of es a) k v m)) as'
-count-reports es k v m p [] = refl
-count-reports es k v m p (b ∷ bs) = omega (arith, count-reports es k v m p bs)
-
-pub count-in : (p q : ℕ → Bool) (xs : List ℕ) → ((a : ℕ) → In a xs → p a ≡ true → q a ≡ true) → count p xs ≤ count q xs
+pub count-in : {A : Type 0} (p q : A → Bool) (xs : List A) → ((a : A) → In a xs → p a ≡ true → q a ≡ true) → count p xs ≤ count q xs
 count-in p q [] h = omega arith
 count-in p q (x ∷ xs) h =
     elim (cases_Bool (p x)) [

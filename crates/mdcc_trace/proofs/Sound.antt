@@ -1,5 +1,5 @@
 -- Ledgers with classic ballots keep sound marks.
-use Rattle.std.proofs.Common.{List, None, Option, Some, [], ap, inl, inr, not, refl, subst, sym, true, ℕ, ◌&&◌, ◌==◌, ◌∙◌, ◌∷◌, ◌≡◌}
+use Rattle.std.proofs.Common.{List, None, Option, Some, [], ap, inl, inr, not, refl, subst, sym, true, ℕ, ◌&&◌, ◌==◌, ◌||◌, ◌∙◌, ◌∷◌, ◌≡◌}
 use Rattle.std.specs.Prelude.{filter_map, is_some}
 use Rattle.std.specs.Option.{option_or}
 use Rattle.std.proofs.lemmas.Bool.{MatchBool-at_true, and_parts, cases_Bool, or_cases}
@@ -18,7 +18,7 @@ use Rattle.mdcc_struct.specs.declared.options.Options.{Options}
 use Rattle.mdcc_struct.specs.Maps.{TxMap, union, value_of}
 use Rattle.mdcc_protocol.specs.Marks.{options_eq}
 use Rattle.mdcc_messages.specs.declared.facts.Fact.{Fact}
-use Rattle.mdcc_protocol.specs.Facts.{marks_voted, votes_of, write_set_in, write_sets_from, write_sets_of}
+use Rattle.mdcc_protocol.specs.Facts.{is_finished, marks_voted, votes_of, write_set_in, write_sets_from, write_sets_of}
 use Rattle.mdcc_protocol.specs.Acceptor.{new_marks}
 use Rattle.mdcc_ledger.specs.Ledger.{Added, Entry, Valued, choices_begun, facts_of}
 use Rattle.mdcc_ledger.specs.AllowedLedgers.{IsAllowed, is_fast_vote_begun, is_valued, is_valued_as}
@@ -177,7 +177,7 @@ classic-sound cluster c k v b xs es legal once sound h =
     fact-sound cluster c (Fact.Voted k v b (new_marks (facts_of es c) k v b xs) None) es legal h (voted-marks es k v b (new_marks (facts_of es c) k v b xs) None mark) set
   where
     each : (e : TxId × Mark) → In e (new_marks (facts_of es c) k v b xs) → IsSoundMark es k v e.0 e.1
-    each e i = sound e.0 e.1 (once-at xs e once (In-filter (λ (e : TxId × Mark). not (is_some (value_of (votes_of (facts_of es c) k v b) e.0))) xs e i).0)
+    each e i = sound e.0 e.1 (once-at xs e once (In-filter (λ (e : TxId × Mark). not (is_some (value_of (votes_of (facts_of es c) k v b) e.0) || is_finished (facts_of es c) e.0)) xs e i).0)
 
     mark : (t : TxId) (m : Mark) → value_of (new_marks (facts_of es c) k v b xs) t ≡ Some m → IsSoundMark es k v t m
     mark t m g = let r = value-in (new_marks (facts_of es c) k v b xs) t m g in subst (λ z. IsSoundMark es k v z m) r.2 (subst (λ z. IsSoundMark es k v r.0.0 z) r.3 (each r.0 r.1))
@@ -207,6 +207,7 @@ plain-sound cluster (Entry.Begun c u cs) es legal p h = record {
 plain-sound cluster (Added c (Fact.Booted n)) es legal p h = fact-sound cluster c (Fact.Booted n) es legal h (λ k v b t m g. absurd (cc)) (λ t ws g. absurd (cc))
 plain-sound cluster (Added c (Fact.Promised j lo hi m)) es legal p h = fact-sound cluster c (Fact.Promised j lo hi m) es legal h (λ k v b t m g. absurd (cc)) (λ t ws g. absurd (cc))
 plain-sound cluster (Added c (Fact.Heard u o)) es legal p h = fact-sound cluster c (Fact.Heard u o) es legal h (λ k v b t m g. absurd (cc)) (λ t ws g. absurd (cc))
+plain-sound cluster (Added c (Fact.Floor origin era upto)) es legal p h = fact-sound cluster c (Fact.Floor origin era upto) es legal h (λ k v b t m g. absurd (cc)) (λ t ws g. absurd (cc))
 plain-sound cluster (Added c (Fact.Adopted j w it ds)) es legal p h = fact-sound cluster c (Fact.Adopted j w it ds) es legal h (λ k v b t m g. absurd (cc)) (λ t ws g. absurd (cc))
 plain-sound cluster (Added c (Fact.Voted k v b os off)) es legal p h = fast-sound cluster c k v b os off es legal p h
 

@@ -19,7 +19,7 @@ use Rattle.mdcc_protocol.specs.Leader.{counted_promise, has_proposed, is_promise
 use Rattle.mdcc_protocol.specs.Volatile.{Counted, Lead, Leading, Volatile, lead_of, structure_found, with_lead, with_leader, with_structure}
 use Rattle.mdcc_ledger.specs.Ledger.{Entry, Valued, facts_of, structure_valued}
 use Rattle.mdcc_ledger.specs.AllowedLedgers.{IsAllowed, is_valued}
-use Rattle.mdcc_ledger.specs.AllowedStructures.{IsMade, are_distinct, promisers_of, reports_at}
+use Rattle.mdcc_ledger.specs.AllowedStructures.{IsAmongCentres, IsMade, are_distinct, promisers_of}
 use Rattle.mdcc_messages.specs.declared.messages.Message.{Message}
 use Rattle.mdcc_trace_states.specs.Words.{Each, In, count}
 use Rattle.mdcc_trace_states.specs.Invariant.{IsGoodStep}
@@ -27,14 +27,14 @@ use Rattle.mdcc_trace_states.specs.VolatileInvariant.{IsLead, IsPromise, Keeps, 
 use Rattle.mdcc_trace_states.specs.Sound.{IsSound}
 use Rattle.mdcc_trace_states.proofs.Tests.{Decides-ballot, Decides-key, Decides-options}
 use Rattle.mdcc_trace_states.proofs.Lists.{Each-append, Each-at, Each-like}
-use Rattle.mdcc_trace_states.proofs.Kept.{AreVotes-more, Manages-more}
+use Rattle.mdcc_trace_states.proofs.Kept.{AreVotes-more, Manages-more, told-more}
 use Rattle.mdcc_trace_states.proofs.Led.{IsPlaced-more}
 use Rattle.mdcc_trace_rules.proofs.Begins.{nothing-good, stands-each}
 use Rattle.mdcc_trace_rules.proofs.Chains.{HasOnce, once-first}
 use Rattle.mdcc_protocol.proofs.EnoughPromises.{enough-classic, parts-classic, waiting-few}
 use Rattle.mdcc_trace.proofs.Claims.{found-with}
 use Rattle.mdcc_trace.proofs.Leading.{among, lead-in, lead-kept, promisers-enough, valued-kept}
-use Rattle.mdcc_trace.proofs.Making.{AllSound, first-sound, reports-good, reports-now, sound-begun}
+use Rattle.mdcc_trace.proofs.Making.{AllSound, centres-told, first-sound, reports-good, reports-told, sound-begun}
 use Rattle.mdcc_protocol.specs.declared.leader.LeadFault.{LeadFault}
 use Rattle.mdcc_protocol.specs.declared.leader.Promise.{Promise}
 use Rattle.mdcc_protocol.specs.declared.leader.PromiseAnswer.{PromiseAnswer}
@@ -82,7 +82,7 @@ module _ (also : List Entry → Type 0) (well : IsWell also) (cluster : Cluster)
   GoodLed (Err LeadFault.Memory) = ⊤
 
   keeps-leader : (l : Leading) → Leads cluster es a l → Keeps cluster es a (with_leader volatile l)
-  keeps-leader l h = record { manager = up.keeps.manager; recovery = up.keeps.recovery; leader = h }
+  keeps-leader l h = record { manager = up.keeps.manager; recovery = up.keeps.recovery; leader = h; told = up.keeps.told }
 
   pub only-good : (l : Leading) → Leads cluster es a l → GoodLed (Ok (record { after = with_leader volatile l; entries = []; sends = [] }))
   only-good l h = (nothing-good also cluster es a volatile (with_leader volatile l) up (keeps-leader l h), refl)
@@ -139,6 +139,7 @@ module _ (also : List Entry → Type 0) (well : IsWell also) (cluster : Cluster)
           keeps = record {
             manager = Manages-more cluster (Valued a x.key w x.ballot os) es a volatile.manager legal refl up.keeps.manager;
             recovery = AreVotes-more cluster (Valued a x.key w x.ballot os) es volatile.recovery.votes up.keeps.recovery;
+            told = told-more cluster (Valued a x.key w x.ballot os) es volatile.told up.keeps.told;
             leader = valued-kept cluster es a volatile.leader x y w os legal up.keeps.leader g key k;
           };
         },
@@ -202,9 +203,6 @@ module _ (also : List Entry → Type 0) (well : IsWell also) (cluster : Cluster)
       reaches : (qs : List Counted) → Each (IsPromise cluster es x.key x.version x.ballot) qs → Each (λ (p : Counted). x.version ≤ p.through) qs
       reaches qs h = Each-like (IsPromise cluster es x.key x.version x.ballot) (λ (p : Counted). x.version ≤ p.through) qs (λ p i. i.reach) h
 
-      now : reports_of ps ≡ reports_at es x.key x.version x.ballot (map (λ (p : Counted). p.from) ps)
-      now = reports-now cluster es x.key x.version x.ballot ps up.legal promises (reaches ps promises)
-
       ranges : Each (λ (p : Counted). (x.version ≤ x.version) × (x.version ≤ p.through)) ps
       ranges = Each-like (λ (p : Counted). x.version ≤ p.through) (λ (p : Counted). (x.version ≤ x.version) × (x.version ≤ p.through)) ps (λ p h. (omega arith, h)) (reaches ps promises)
 
@@ -217,13 +215,14 @@ module _ (also : List Entry → Type 0) (well : IsWell also) (cluster : Cluster)
         held = g.held;
         promised = omega (arith, at-through ps (reaches ps promises), full, promisers-enough cluster es x.key x.version x.version x.ballot (λ (p : Counted). nat_le x.version p.through) ps promises apart (λ p e. (omega arith, leb-true _ _ e)));
         made = inl (
-          map (λ (p : Counted). p.from) ps,
+          reports_of ps,
           x.claims,
           record {
             none_before = none;
-            promised = among cluster es x.key x.version x.version x.ballot ps promises apart ranges;
-            enough = subst (λ rs. is_enough cluster (facts_of es a) x.key x.version rs ≡ true) now enough;
-            made = ap (first_structure cluster (facts_of es a) x.key x.version x.claims) now;
+            promised = subst (λ z. IsAmongCentres z (promisers_of cluster.quorums es x.key x.version x.ballot)) (centres-told ps) (among cluster es x.key x.version x.version x.ballot ps promises apart ranges);
+            reported = reports-told cluster es x.key x.version x.ballot ps promises;
+            enough = enough;
+            made = refl;
           },
         );
         once = once-first cluster (facts_of es a) x.key x.version x.claims (reports_of ps);

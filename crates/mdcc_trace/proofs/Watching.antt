@@ -19,7 +19,7 @@ use Rattle.mdcc_option.specs.Transaction.{choice_of, choices_of}
 use Rattle.mdcc_struct.specs.Maps.{value_of}
 use Rattle.mdcc_protocol.specs.Marks.{choice_in}
 use Rattle.mdcc_messages.specs.declared.facts.Fact.{Fact}
-use Rattle.mdcc_protocol.specs.Facts.{choice_known, choice_of_tx, choice_voted, marks_voted, votes_of}
+use Rattle.mdcc_protocol.specs.Facts.{choice_known, choice_of_tx, choice_voted, first_choice, is_forgotten, marks_voted, votes_of}
 use Rattle.mdcc_ledger.specs.Ledger.{Added, Entry, Valued, choices_begun, facts_of, mark_given}
 use Rattle.mdcc_ledger.specs.AllowedLedgers.{IsAllowed, is_fast_vote_begun, part_in}
 use Rattle.mdcc_ledger.specs.AllowedStructures.{is_begun}
@@ -74,15 +74,15 @@ placed-key cluster es t ws e legal h i =
 -- ---- the choice of a claim
 
 -- by its own votes: a mark that is given, or an offered choice
-choice-known : (cluster : Cluster) (es : List Entry) (a : ℕ) (k : Key) (v : ℕ) (t : TxId) (c : Choice) → IsAllowed cluster es → choice_known (facts_of es a) k v t ≡ Some c →
+choice-first : (cluster : Cluster) (es : List Entry) (a : ℕ) (k : Key) (v : ℕ) (t : TxId) (c : Choice) → IsAllowed cluster es → first_choice (facts_of es a) k v t ≡ Some c →
     ((b : Ballot) × (mark_given es k v b t a ≡ Some (Accept c))) ⊎ IsOwn es k v t c
-choice-known cluster [] a k v t c legal h = absurd (cc)
-choice-known cluster (Entry.Begun d u cs ∷ es) a k v t c legal h = elim (choice-known cluster es a k v t c legal.0 h) [ inl g ↦ inl g | inr g ↦ inr (IsOwn-more cluster (Entry.Begun d u cs) es k v t c legal g) ]
-choice-known cluster (Valued d j w m os ∷ es) a k v t c legal h = elim (choice-known cluster es a k v t c legal.0 h) [ inl g ↦ inl g | inr g ↦ inr (IsOwn-more cluster (Valued d j w m os) es k v t c legal g) ]
-choice-known cluster (Added d f ∷ es) a k v t c legal h =
+choice-first cluster [] a k v t c legal h = absurd (cc)
+choice-first cluster (Entry.Begun d u cs ∷ es) a k v t c legal h = elim (choice-first cluster es a k v t c legal.0 h) [ inl g ↦ inl g | inr g ↦ inr (IsOwn-more cluster (Entry.Begun d u cs) es k v t c legal g) ]
+choice-first cluster (Valued d j w m os ∷ es) a k v t c legal h = elim (choice-first cluster es a k v t c legal.0 h) [ inl g ↦ inl g | inr g ↦ inr (IsOwn-more cluster (Valued d j w m os) es k v t c legal g) ]
+choice-first cluster (Added d f ∷ es) a k v t c legal h =
     elim (cases_Bool (d == a)) [
-      | inl e ↦ let g : option_or (choice_known (facts_of es a) k v t) (choice_voted k v t f) ≡ Some c = rw e at h in by_case (eqb-true d a e) (λ i. older (choice-known cluster es a k v t c legal.0 i)) (choice_known (facts_of es a) k v t) refl g
-      | inr e ↦ older (choice-known cluster es a k v t c legal.0 (rw e at h))
+      | inl e ↦ let g : option_or (first_choice (facts_of es a) k v t) (choice_voted k v t f) ≡ Some c = rw e at h in by_case (eqb-true d a e) (λ i. older (choice-first cluster es a k v t c legal.0 i)) (first_choice (facts_of es a) k v t) refl g
+      | inr e ↦ older (choice-first cluster es a k v t c legal.0 (rw e at h))
     ]
   where
     older : ((b : Ballot) × (mark_given es k v b t a ≡ Some (Accept c))) ⊎ IsOwn es k v t c → ((b : Ballot) × (mark_given (Added d f ∷ es) k v b t a ≡ Some (Accept c))) ⊎ IsOwn (Added d f ∷ es) k v t c
@@ -92,6 +92,7 @@ choice-known cluster (Added d f ∷ es) a k v t c legal h =
     new (Fact.Booted n) l s g = absurd (cc)
     new (Fact.Promised j lo hi m) l s g = absurd (cc)
     new (Fact.Heard u o) l s g = absurd (cc)
+    new (Fact.Floor origin era upto) l s g = absurd (cc)
     new (Fact.Adopted j w it ds) l s g = absurd (cc)
     new (Fact.Voted j w m os off) l s g =
         elim (cases_Bool (w == v && key_eq j k)) [
@@ -154,13 +155,20 @@ choice-known cluster (Added d f ∷ es) a k v t c legal h =
         voted None o (Some x) y p q i = inr (elim (cases_Bool (tx_eq x.tx t)) [ inl u ↦ let s : Some x ≡ Some c = rw u at i in offered x y u (cc) p q | inr u ↦ let bad : None ≡ Some c = rw u at i in absurd (cc) ])
         voted None o None y p q i = absurd (cc)
 
-    by_case : d ≡ a → (choice_known (facts_of es a) k v t ≡ Some c → ((b : Ballot) × (mark_given (Added d f ∷ es) k v b t a ≡ Some (Accept c))) ⊎ IsOwn (Added d f ∷ es) k v t c) → (o : Option Choice) → choice_known (facts_of es a) k v t ≡ o →
+    by_case : d ≡ a → (first_choice (facts_of es a) k v t ≡ Some c → ((b : Ballot) × (mark_given (Added d f ∷ es) k v b t a ≡ Some (Accept c))) ⊎ IsOwn (Added d f ∷ es) k v t c) → (o : Option Choice) → first_choice (facts_of es a) k v t ≡ o →
         option_or o (choice_voted k v t f) ≡ Some c → ((b : Ballot) × (mark_given (Added d f ∷ es) k v b t a ≡ Some (Accept c))) ⊎ IsOwn (Added d f ∷ es) k v t c
     by_case s rest None e g = new f legal s g
     by_case s rest (Some x) e g = rest (e ∙ g)
 
+known-first : (fs : List Fact) (k : Key) (v : ℕ) (t : TxId) (c : Choice) → choice_known fs k v t ≡ Some c → first_choice fs k v t ≡ Some c
+known-first fs k v t c h =
+    elim (cases_Bool (is_forgotten fs k v t)) [
+      | inl e ↦ let bad : None ≡ Some c = rw e at h in absurd (cc)
+      | inr e ↦ let is : first_choice fs k v t ≡ Some c = rw e at h in is
+    ]
+
 pub own-choice : (cluster : Cluster) (es : List Entry) (a : ℕ) (k : Key) (v : ℕ) (t : TxId) (c : Choice) → IsAllowed cluster es → IsSound es → choice_known (facts_of es a) k v t ≡ Some c → IsOwn es k v t c
-own-choice cluster es a k v t c legal sound h = elim (choice-known cluster es a k v t c legal h) [ inl g ↦ (sound.votes k v g.0 t a (Accept c) g.1).own c refl | inr g ↦ g ]
+own-choice cluster es a k v t c legal sound h = elim (choice-first cluster es a k v t c legal (known-first (facts_of es a) k v t c h)) [ inl g ↦ (sound.votes k v g.0 t a (Accept c) g.1).own c refl | inr g ↦ g ]
 
 -- by a vote that was received
 received-in : (xs : List Choice) (c : Choice) → reduce (λ (x y : Choice). x) xs ≡ Some c → In c xs

@@ -1,7 +1,7 @@
 -- A message that was sent is never foreign where it arrives, and its step crowds neither a version nor a structure.
 use Rattle.std.proofs.Common.{Bool, Err, List, None, Ok, Option, Result, Some, arith, cond, false, inl, inr, length, refl, subst, suc, sym, true, ℕ, ◌&&◌, ◌+◌, ◌<◌, ◌==◌, ◌∷◌, ◌≡◌, ◌≤◌}
 use Rattle.std.specs.Prelude.{nat_le, nat_lt, ◌-◌, ◌^◌}
-use Rattle.std.proofs.lemmas.Bool.{and_from, cases_Bool, eq-eqb, leb-true, ltb-true, or_cases, or_left}
+use Rattle.std.proofs.lemmas.Bool.{and_from, cases_Bool, eq-eqb, leb-true, ltb-true, or_cases, or_left, cond_both}
 use Rattle.mdcc_base.specs.Ballot.{ballot_eq}
 use Rattle.mdcc_base.specs.Key.{key_eq}
 use Rattle.mdcc_base.specs.declared.identifiers.Ballot.{Ballot}
@@ -13,15 +13,15 @@ use Rattle.mdcc_option.specs.declared.cluster.Cluster.{Cluster}
 use Rattle.mdcc_struct.specs.declared.options.Options.{Options}
 use Rattle.mdcc_ledger.specs.AllowedLedgers.{IsAllowed, IsBacked, is_valued, is_valued_as}
 use Rattle.mdcc_protocol.specs.Belongs.{is_centre, message_belongs}
-use Rattle.mdcc_protocol.specs.Facts.{current_of, epoch_of, heard_of}
+use Rattle.mdcc_protocol.specs.Facts.{current_of, epoch_of, is_finished, outcome_kept}
 use Rattle.mdcc_protocol.specs.IsCluster.{IsCluster}
 use Rattle.mdcc_protocol.specs.Leader.{claim_of_choice, counted_promise, has_proposed, is_covered, is_promise_counted, is_waiting, lead, led_anew, led_by, next_round, on_promise, promise_taken, with_promise}
-use Rattle.mdcc_rules.specs.LeaderRules.{lead_step_after, led_by_answer, promised_by_answer, step_of_led}
+use Rattle.mdcc_rules.specs.LeaderRules.{lead_step_after, led_by_answer, promised_by_answer, step_of_led, led_of}
 use Rattle.mdcc_ledger.specs.Ledger.{Entry, Valued, facts_of}
 use Rattle.mdcc_protocol.specs.Marks.{accepts_in, options_eq, rejects_in}
 use Rattle.mdcc_protocol.specs.News.{is_crowding}
 use Rattle.mdcc_rules.specs.Node.{checked, is_without_room, message_step, step_of, with_room}
-use Rattle.mdcc_rules.specs.Steps.{NodeStep}
+use Rattle.mdcc_rules.specs.Steps.{NodeStep, sending}
 use Rattle.mdcc_protocol.specs.Structures.{first_structure, is_crowded, is_enough}
 use Rattle.mdcc_protocol.specs.Leader.{reports_of}
 use Rattle.mdcc_protocol.specs.Volatile.{Lead, Leading, Volatile, lead_of}
@@ -48,6 +48,8 @@ use Rattle.mdcc_trace.proofs.Structuring.{GoodLed, promise-good}
 use Rattle.mdcc_trace_answers.specs.Answered.{IsAnswered, IsRefusedForRoom}
 use Rattle.mdcc_trace_answers.proofs.Crowding.{not-crowding}
 use Rattle.mdcc_rules.specs.Here.{here}
+use Rattle.mdcc_rules.specs.Messages.{to_one}
+use Rattle.mdcc_agreement.proofs.VersionsLow.{few-begun}
 
 -- ---- structures
 
@@ -123,7 +125,7 @@ promise-fault cluster facts leader from promise fault h = by_lead (lead_of leade
 module _ (cluster : Cluster) (es : List Entry) (a : ℕ) (volatile : Volatile) (up : IsUp IsSound cluster es a volatile) (is : IsCluster cluster) (short : length es + 1 ≤ 2 ^ 64 - 1)
     (low : (key : Key) (version : ℕ) → next_round (facts_of es a) volatile.leader key version < 2 ^ 32) where
   ledger : IsLedger cluster es
-  ledger = record { of_cluster = is; allowed = up.legal; short = omega (arith, short) }
+  ledger = record { of_cluster = is; allowed = up.legal; few = few-begun es (omega (arith, short)) }
 
   led-answered : (r : Result (LeadAnswer × Leading) LeadFault) (claim : Claim) → ((fault : LeadFault) → r ≡ Err fault → ⊥) → IsAnswered (step_of_led (led_by_answer cluster.quorums a volatile claim r))
   led-answered (Ok (answer, after)) claim f = tt
@@ -132,8 +134,9 @@ module _ (cluster : Cluster) (es : List Entry) (a : ℕ) (volatile : Volatile) (
   claimed-answered : (s : ℕ) (choice : Choice) (o : Option Outcome) → IsAnswered (lead_step_after (here cluster a (facts_of es a)) volatile s choice o)
   claimed-answered s choice (Some o) = tt
   claimed-answered s choice None =
-      led-answered (lead cluster a (epoch_of (facts_of es a)) (facts_of es a) volatile.leader (claim_of_choice choice)) (claim_of_choice choice)
-      (λ fault e. lead-fault cluster a (epoch_of (facts_of es a)) (facts_of es a) volatile.leader (claim_of_choice choice) fault (low choice.key choice.version) e)
+      cond_both (is_finished (facts_of es a) choice.tx) (Ok (sending volatile (to_one a s (Message.Finished choice.tx)))) (step_of_led (led_of (here cluster a (facts_of es a)) volatile (claim_of_choice choice))) IsAnswered (λ e. tt)
+      (λ f. led-answered (lead cluster a (epoch_of (facts_of es a)) (facts_of es a) volatile.leader (claim_of_choice choice)) (claim_of_choice choice)
+      (λ fault e. lead-fault cluster a (epoch_of (facts_of es a)) (facts_of es a) volatile.leader (claim_of_choice choice) fault (low choice.key choice.version) e))
 
   promised-answered : (k : Key) (r : Result (PromiseAnswer × Leading) LeadFault) → ((fault : LeadFault) → r ≡ Err fault → fault ≡ LeadFault.Crowded) → (r ≡ Err LeadFault.Crowded → ⊥) → IsAnswered (step_of_led (promised_by_answer cluster.quorums a volatile k r))
   promised-answered k (Ok (answer, after)) f g = tt
@@ -145,7 +148,7 @@ module _ (cluster : Cluster) (es : List Entry) (a : ℕ) (volatile : Volatile) (
   message-answered env (Message.Propose choice) e h = tt
   message-answered env (Message.Voted k v b t m) e h = tt
   message-answered env (Message.Escalate k v t cause) e h = tt
-  message-answered env (Message.Lead choice) e h = claimed-answered env.from choice (heard_of (facts_of es a) choice.tx)
+  message-answered env (Message.Lead choice) e h = claimed-answered env.from choice (outcome_kept (facts_of es a) choice.tx)
   message-answered env (Message.Prepare k v w b) e h = tt
   message-answered env (Message.Promise k v w b r os) e h =
       promised-answered k (on_promise cluster (facts_of es a) volatile.leader env.from promise) (λ fault f. promise-fault cluster (facts_of es a) volatile.leader env.from promise fault f) crowded
@@ -158,7 +161,7 @@ module _ (cluster : Cluster) (es : List Entry) (a : ℕ) (volatile : Volatile) (
           let said = subst (λ z. Says cluster h.old env.from z) e h.says in
           let good = promise-good IsSound (sound-well law) cluster es a volatile up env.from promise (record { centre = h.from; old = h.old; tail = h.tail; promised = said.0; reach = said.1; report = said.2 }) in
           let told : (key : Key) × (version : ℕ) × (ballot : Ballot) × (options : Options) × IsAllowed cluster (Valued a key version ballot options ∷ es) × (is_crowded options ≡ true) = subst (λ z. GoodLed IsSound (sound-well law) cluster es a volatile up (promised_by_answer cluster.quorums a volatile k z)) f good in
-          not-crowded cluster es a told.0 told.1 told.2 told.3 (record { of_cluster = is; allowed = told.4; short = longer (length es) short }) told.5
+          not-crowded cluster es a told.0 told.1 told.2 told.3 (record { of_cluster = is; allowed = told.4; few = few-begun (Valued a told.0 told.1 told.2 told.3 ∷ es) (longer (length es) short) }) told.5
         where
           longer : (n : ℕ) → n + 1 ≤ 2 ^ 64 - 1 → suc n ≤ 2 ^ 64 - 1
           longer n h = omega (arith, h)
@@ -168,6 +171,8 @@ module _ (cluster : Cluster) (es : List Entry) (a : ℕ) (volatile : Volatile) (
   message-answered env (Message.Ask t k v) e h = tt
   message-answered env (Message.SyncAsk k) e h = tt
   message-answered env (Message.SyncGive k v item adds) e h = tt
+  message-answered env (Message.Mark centre era upto) e h = tt
+  message-answered env (Message.Finished t) e h = tt
   message-answered env (Message.ClientRead n k) e h = tt
   message-answered env (Message.ClientBegin n ps) e h = tt
   message-answered env (Message.ClientAnswer n x) e h = tt

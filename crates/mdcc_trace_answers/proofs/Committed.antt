@@ -1,5 +1,5 @@
 -- The deltas that the facts of a centre bring, of whatever version, are amounts that committed transactions add at just that version.
-use Rattle.std.proofs.Common.{List, None, Option, Some, [], ap, arith, inl, inr, length, refl, subst, sym, ℕ, ◌&&◌, ◌++◌, ◌==◌, ◌∙◌, ◌∷◌, ◌≡◌, ◌≤◌}
+use Rattle.std.proofs.Common.{List, None, Option, Some, [], ap, arith, inl, inr, refl, subst, sym, ℕ, ◌&&◌, ◌++◌, ◌==◌, ◌∙◌, ◌∷◌, ◌≡◌, ◌≤◌}
 use Rattle.std.specs.Prelude.{filter_map, map, option_map}
 use Rattle.std.proofs.lemmas.Bool.{and_parts, cases_Bool, eqb-true}
 use Rattle.mdcc_base.specs.Key.{key_eq}
@@ -17,7 +17,7 @@ use Rattle.mdcc_protocol.specs.Facts.{amounts_added, current_of, delta_given, de
 use Rattle.mdcc_ledger.specs.Ledger.{Added, Entry, Valued, choices_begun, facts_of}
 use Rattle.mdcc_protocol.specs.Marks.{Amounts}
 use Rattle.mdcc_messages.specs.declared.facts.Fact.{Fact}
-use Rattle.mdcc_agreement.specs.Laws.{IsCommit, IsLedger}
+use Rattle.mdcc_agreement.specs.Laws.{IsCommit, IsLedger, begun_in}
 use Rattle.mdcc_agreement.proofs.LawsTold.{commit_begun}
 use Rattle.mdcc_rooms.specs.Held.{IsBase, IsCommitted, IsCommittedAdd}
 use Rattle.mdcc_trace_states.specs.Words.{Each, In, IsTail}
@@ -29,18 +29,19 @@ use Rattle.mdcc_trace_rules.proofs.Deciding.{begun-tx}
 use Rattle.mdcc_trace_rules.proofs.Outcomes.{outcome-tail}
 use Rattle.mdcc_trace.proofs.Single.{one-mark}
 use Rattle.mdcc_trace_answers.proofs.Among.{Contains-In}
+use Rattle.mdcc_agreement.proofs.VersionsLow.{begun-after}
 
-tail-long : {A : Type 0} (old es : List A) → IsTail old es → length old ≤ length es
-tail-long old [] h = subst (λ z. length old ≤ length z) h (omega arith)
-tail-long old (e ∷ es) h =
+tail-begun : (old es : List Entry) → IsTail old es → begun_in old ≤ begun_in es
+tail-begun old [] h = subst (λ z. begun_in old ≤ begun_in z) h (omega arith)
+tail-begun old (e ∷ es) h =
     elim h [
-      | inl s ↦ subst (λ z. length old ≤ length z) s (omega arith)
-      | inr r ↦ omega (arith, tail-long old es r)
+      | inl s ↦ subst (λ z. begun_in old ≤ begun_in z) s (omega arith)
+      | inr r ↦ omega (arith, tail-begun old es r, begun-after (e ∷ []) es)
     ]
 
 -- what a ledger was before is one too
 pub ledger-tail : (cluster : Cluster) (old es : List Entry) → IsTail old es → IsLedger cluster es → IsLedger cluster old
-ledger-tail cluster old es tail h = record { of_cluster = h.of_cluster; allowed = Allowed-tail cluster old es tail h.allowed; short = omega (arith, tail-long old es tail, h.short) }
+ledger-tail cluster old es tail h = record { of_cluster = h.of_cluster; allowed = Allowed-tail cluster old es tail h.allowed; few = omega (arith, tail-begun old es tail, h.few) }
 
 -- ---- what lasts
 
@@ -97,6 +98,7 @@ tail-of later earlier es e = subst (IsTail earlier) (sym e) (IsTail-more later e
 pub fact-adds : (cluster : Cluster) (es : List Entry) (a : ℕ) (f : Fact) (k : Key) (v : ℕ) → IsLedger cluster es → WereCommitted cluster es → IsBacked cluster es a f → Each (λ (d : TxId × Amounts). IsCommittedAdd cluster es k v d) (deltas_from k v f)
 fact-adds cluster es a (Fact.Booted n) k v h were b = tt
 fact-adds cluster es a (Fact.Promised j lo hi m) k v h were b = tt
+fact-adds cluster es a (Fact.Floor origin era upto) k v h were b = tt
 fact-adds cluster es a (Fact.Voted j w m os off) k v h were b = tt
 fact-adds cluster es a (Fact.Heard t (Outcome.Commit cs)) k v h were b = commit-adds cluster es k v t cs h b
 fact-adds cluster es a (Fact.Heard t Outcome.Abort) k v h were b = tt

@@ -14,7 +14,7 @@ use Rattle.mdcc_messages.specs.Mailbox.{Sent}
 use Rattle.mdcc_messages.specs.WellFormed.{IsWellFormedMessage}
 use Rattle.mdcc_messages.specs.WellFormedParts.{IsWellFormedHeard, IsWellFormedOptions}
 use Rattle.mdcc_messages.specs.declared.messages.Message.{Message}
-use Rattle.mdcc_protocol.specs.Facts.{last_ballot, votes_of}
+use Rattle.mdcc_protocol.specs.Facts.{last_ballot, shown_of}
 use Rattle.mdcc_protocol.specs.IsCluster.{IsCluster}
 use Rattle.mdcc_ledger.specs.Ledger.{Entry, facts_of}
 use Rattle.mdcc_language.specs.declared.events.Event.{Event}
@@ -26,7 +26,7 @@ use Rattle.mdcc_spelling.proofs.Longest.{longest_choice}
 use Rattle.mdcc_agreement.specs.Laws.{IsLedger}
 use Rattle.mdcc_rooms.proofs.RoomTold.{room_sent}
 use Rattle.mdcc_steps.proofs.Shortness.{entries-long, longest-choices, longest-deltas, longest-entry}
-use Rattle.mdcc_trace_states.specs.MessageMeaning.{IsBackedMessage, IsLasting, Says}
+use Rattle.mdcc_trace_states.specs.MessageMeaning.{IsBackedMessage, Says}
 use Rattle.mdcc_trace_states.specs.Words.{Each}
 use Rattle.mdcc_trace_states.proofs.Lists.{Each-like}
 use Rattle.mdcc_trace.proofs.Laws.{all_sent, allowed}
@@ -38,6 +38,8 @@ use Rattle.mdcc_worlds.specs.Words.{IsGivenEvent}
 use Rattle.mdcc_worlds.specs.Events.{IsBetween}
 use Rattle.mdcc_worlds.specs.WorldInvariant.{IsSentWithin}
 use Rattle.mdcc_trace_answers.proofs.VotesAreFew.{AreFew, votes-few}
+use Rattle.mdcc_trace_answers.proofs.Committed.{ledger-tail}
+use Rattle.mdcc_agreement.proofs.VersionsLow.{few-begun}
 
 -- ---- one message
 
@@ -59,7 +61,7 @@ module _ (cluster : Cluster) (es : List Entry) (ledger : IsLedger cluster es) (f
   promise-short : (key : Key) (version through : ℕ) (ballot reported : Ballot) (votes : Options) → Says cluster es from (Message.Promise key version through ballot reported votes) → AreFew 1023 32767 votes
   promise-short key version through ballot reported votes h =
       let facts = facts_of es from in
-      let is : votes_of facts key version (last_ballot facts key version ballot) ≡ votes = sym (votes-told 0 facts key version ballot h.3) ∙ ap (λ (z : Report). z.votes) h.2 in
+      let is : shown_of facts key version (last_ballot facts key version ballot) ≡ votes = sym (votes-told 0 facts key version ballot h.3) ∙ ap (λ (z : Report). z.votes) h.2 in
       subst (AreFew 1023 32767) is (votes-few cluster es from key version (last_ballot facts key version ballot) ledger)
 
   accept-short : (key : Key) (version : ℕ) (ballot : Ballot) (options : Options) → Says cluster es from (Message.Accept key version ballot options) → AreFew 1023 32767 options
@@ -67,25 +69,27 @@ module _ (cluster : Cluster) (es : List Entry) (ledger : IsLedger cluster es) (f
       let few = room_sent cluster es ledger key version ballot options h.1 in
       record { accepted = omega (arith, few.0); rejected = omega (arith, few.1) }
 
-  body-short : (message : Message) → IsWellFormedMessage message → (IsLasting message → Says cluster es from message) → body_length message ≤ 1473501
+  body-short : (message : Message) → IsWellFormedMessage message → Says cluster es from message → body_length message ≤ 1473501
   body-short (Message.Propose choice) w h = omega (arith, longest_choice choice w)
   body-short (Message.Lead choice) w h = omega (arith, longest_choice choice w)
   body-short (Message.Voted key version ballot tx mark) w h = omega (arith, w.instance.key_itself.fits, longest-entry key version tx mark w.entry)
   body-short (Message.Escalate key version tx cause) w h = omega (arith, w.instance.key_itself.fits, cause-short cause)
   body-short (Message.Prepare key version through ballot) w h = omega (arith, w.instance.key_itself.fits)
   body-short (Message.Promise key version through ballot reported votes) w h =
-      omega (arith, w.prepare.instance.key_itself.fits, marks-short key version votes w.votes_itself (promise-short key version through ballot reported votes (h tt)))
+      omega (arith, w.prepare.instance.key_itself.fits, marks-short key version votes w.votes_itself (promise-short key version through ballot reported votes h))
   body-short (Message.Accept key version ballot options) w h =
-      omega (arith, w.instance.key_itself.fits, marks-short key version options w.options_itself (accept-short key version ballot options (h tt)))
+      omega (arith, w.instance.key_itself.fits, marks-short key version options w.options_itself (accept-short key version ballot options h))
   body-short (Message.Refused key version ballot promised) w h = omega (arith, w.instance.key_itself.fits)
   body-short (Message.Outcome tx outcome) w h = omega (arith, heard-short tx outcome w)
   body-short (Message.Ask tx key version) w h = omega (arith, w.1.key_itself.fits)
   body-short (Message.SyncAsk key) w h = omega (arith, w.fits)
   body-short (Message.SyncGive key version item adds) w h =
       omega (arith, w.instance.key_itself.fits, w.base.body_fits, w.base.count.1, longest-deltas adds w.each, w.few)
-  body-short (Message.ClientRead serial key) w h = absurd (h tt)
-  body-short (Message.ClientBegin serial parts) w h = absurd (h tt)
-  body-short (Message.ClientAnswer serial answer) w h = absurd (h tt)
+  body-short (Message.Mark centre epoch seq) w h = omega arith
+  body-short (Message.Finished tx) w h = omega arith
+  body-short (Message.ClientRead serial key) w h = absurd h
+  body-short (Message.ClientBegin serial parts) w h = absurd h
+  body-short (Message.ClientAnswer serial answer) w h = absurd h
 
 -- ---- all messages of a trace
 
@@ -94,13 +98,13 @@ trace cluster events = (run_of (first_world cluster) events).world
 
 trace-ledger : (cluster : Cluster) → IsCluster cluster → (events : List Event) → IsLedger cluster (trace cluster events).ledger
 trace-ledger cluster is events =
-    record { of_cluster = is; allowed = allowed cluster is events; short = ledger-short cluster is events }
+    record { of_cluster = is; allowed = allowed cluster is events; few = few-begun (trace cluster events).ledger (ledger-short cluster is events) }
 
 pub well_formed-short : (cluster : Cluster) → IsCluster cluster → (events : List Event)
     → Each (λ (s : Sent). IsWellFormedMessage s.envelope.message → message_length s.envelope ≤ 1473505) (trace cluster events).sent
 well_formed-short cluster is events =
     Each-like (λ (s : Sent). IsBackedMessage cluster es s.envelope) (λ (s : Sent). IsWellFormedMessage s.envelope.message → message_length s.envelope ≤ 1473505) (trace cluster events).sent
-    (λ s h w. let short = body-short cluster es (trace-ledger cluster is events) s.envelope.from s.envelope.message w h.still in omega (arith, short)) (all_sent cluster is events)
+    (λ s h w. let short = body-short cluster h.sent.old (ledger-tail cluster h.sent.old es h.sent.tail (trace-ledger cluster is events)) s.envelope.from s.envelope.message w h.sent.says in omega (arith, short)) (all_sent cluster is events)
   where
     es : List Entry
     es = (trace cluster events).ledger

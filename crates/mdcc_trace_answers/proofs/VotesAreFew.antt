@@ -1,7 +1,7 @@
--- A centre has few votes in an instance: at the fast ballot as its acceptor allows, at a classic one those of a structure that was sent.
-use Rattle.std.proofs.Common.{Bool, List, None, Option, Some, [], arith, cond, false, inl, inr, length, not, refl, subst, sym, true, ℕ, ◌&&◌, ◌+◌, ◌<◌, ◌==◌, ◌∙◌, ◌∷◌, ◌≡◌, ◌≤◌}
+-- A centre shows few votes in an instance: at the fast ballot as its acceptor allows, at a classic one those of a structure that was sent.
+use Rattle.std.proofs.Common.{Bool, List, None, Option, Some, [], arith, cond, false, inl, inr, length, not, refl, subst, sym, true, ℕ, ◌&&◌, ◌+◌, ◌<◌, ◌==◌, ◌∙◌, ◌∷◌, ◌≡◌, ◌≤◌, ap, max, ◌⊎◌}
 use Rattle.std.specs.Prelude.{filter, nat_lt, ⊤}
-use Rattle.std.proofs.lemmas.Bool.{MatchBool-at_true, cases_Bool, cond_both, eqb-true, ltb-true}
+use Rattle.std.proofs.lemmas.Bool.{MatchBool-at_true, cases_Bool, cond_both, eqb-true, ltb-true, and_from, and_parts, lt-ltb, true≢false}
 use Rattle.mdcc_base.specs.Ballot.{ballot_eq, fast_ballot, is_fast}
 use Rattle.mdcc_base.specs.Key.{key_eq}
 use Rattle.mdcc_base.specs.TxId.{tx_eq}
@@ -16,7 +16,7 @@ use Rattle.mdcc_struct.specs.Maps.{union, value_of, with_entry}
 use Rattle.mdcc_struct.specs.declared.options.Options.{Options}
 use Rattle.mdcc_messages.specs.declared.facts.Fact.{Fact}
 use Rattle.mdcc_protocol.specs.Acceptor.{fit_of, vote_by_fit, vote_on, vote_to_accept, vote_to_reject}
-use Rattle.mdcc_protocol.specs.Facts.{current_of, entries_of, marks_voted, votes_of}
+use Rattle.mdcc_protocol.specs.Facts.{current_of, entries_of, marks_voted, votes_of, is_finished, is_forgotten, shown_of, version_from, without_forgotten}
 use Rattle.mdcc_protocol.specs.Marks.{accepts_in, is_accept, rejects_in}
 use Rattle.mdcc_protocol.specs.Structures.{accept_room, reject_room}
 use Rattle.mdcc_protocol.specs.declared.acceptor.ProposeAnswer.{ProposeAnswer}
@@ -27,9 +27,11 @@ use Rattle.mdcc_ledger.specs.Ledger.{Added, Entry, Valued, facts_of}
 use Rattle.mdcc_agreement.specs.Laws.{IsLedger}
 use Rattle.mdcc_rooms.proofs.RoomTold.{room_sent}
 use Rattle.mdcc_steps.proofs.Structuring.{count-with_entry, room-small}
-use Rattle.mdcc_trace_rules.proofs.Chains.{HasOnce, backed, is-here, once-union}
+use Rattle.mdcc_trace_rules.proofs.Chains.{HasOnce, backed, is-here, once-union, finished-more}
 use Rattle.mdcc_trace_states.proofs.Maps.{tx-refl, tx-true}
 use Rattle.mdcc_trace_states.proofs.Tests.{Decides-ballot}
+use Rattle.mdcc_trace.proofs.Finished.{shown-voted}
+use Rattle.mdcc_trace.proofs.Making.{once-filter}
 
 -- so many marks accept, and so many reject
 pub record AreFew (accepts rejects : ℕ) (votes : Options) : Type 0 where
@@ -40,15 +42,15 @@ pub record AreFew (accepts rejects : ℕ) (votes : Options) : Type 0 where
 
 -- an answer that is a vote leaves room for it
 abbrev LeavesRoom : List Fact → Choice → ProposeAnswer → Type 0
-LeavesRoom facts choice (ProposeAnswer.Vote (Mark.Accept other)) = length (accepts_in (votes_of facts choice.key choice.version fast_ballot)) < 512
-LeavesRoom facts choice (ProposeAnswer.Vote Mark.Reject) = length (rejects_in (votes_of facts choice.key choice.version fast_ballot)) < 16384
+LeavesRoom facts choice (ProposeAnswer.Vote (Mark.Accept other)) = length (accepts_in (shown_of facts choice.key choice.version fast_ballot)) < 512
+LeavesRoom facts choice (ProposeAnswer.Vote Mark.Reject) = length (rejects_in (shown_of facts choice.key choice.version fast_ballot)) < 16384
 LeavesRoom facts choice _ = ⊤
 
 accept-leaves : (facts : List Fact) (choice : Choice) → LeavesRoom facts choice (vote_to_accept facts choice)
 accept-leaves facts choice =
     cond_both (nat_lt (entries_of facts choice.key choice.version).0 (accept_room choice.update)) (ProposeAnswer.Vote (Mark.Accept choice)) (ProposeAnswer.Escalate Cause.Full) (LeavesRoom facts choice)
     (λ e.
-    let below : length (accepts_in (votes_of facts choice.key choice.version fast_ballot)) < accept_room choice.update = ltb-true (entries_of facts choice.key choice.version).0 (accept_room choice.update) e in
+    let below : length (accepts_in (shown_of facts choice.key choice.version fast_ballot)) < accept_room choice.update = ltb-true (entries_of facts choice.key choice.version).0 (accept_room choice.update) e in
     omega (arith, below, room-small choice.update))
     (λ e. tt)
 
@@ -70,8 +72,8 @@ vote-leaves cluster facts choice =
 
 -- the same in the instance of the vote
 abbrev LeavesRoomAt : List Fact → Key → ℕ → Mark → Type 0
-LeavesRoomAt facts key version (Mark.Accept other) = length (accepts_in (votes_of facts key version fast_ballot)) < 512
-LeavesRoomAt facts key version Mark.Reject = length (rejects_in (votes_of facts key version fast_ballot)) < 16384
+LeavesRoomAt facts key version (Mark.Accept other) = length (accepts_in (shown_of facts key version fast_ballot)) < 512
+LeavesRoomAt facts key version Mark.Reject = length (rejects_in (shown_of facts key version fast_ballot)) < 16384
 
 marked-leaves : (facts : List Fact) (choice : Choice) (mark : Mark) → LeavesRoom facts choice (ProposeAnswer.Vote mark) → LeavesRoomAt facts choice.key choice.version mark
 marked-leaves facts choice (Mark.Accept other) h = h
@@ -84,21 +86,86 @@ may-leaves cluster facts key version tx mark choice h =
     (subst (λ z. LeavesRoomAt facts z choice.version mark) h.of_key
     (marked-leaves facts choice mark (subst (λ z. LeavesRoom facts choice z) h.answer (vote-leaves cluster facts choice))))
 
+-- what is shown beside one more vote
+abbrev ShownWith : List Fact → Key → ℕ → Options → Options
+ShownWith facts key version options = without_forgotten facts key version (union (votes_of facts key version fast_ballot) options)
+
+-- ---- marks that are kept
+
+both-tests : (keep test : TxId × Mark → Bool) (xs : Options) → length (filter test (filter keep xs)) ≡ length (filter (λ x. keep x && test x) xs)
+both-tests keep test [] = refl
+both-tests keep test (x ∷ xs) =
+    let ih = both-tests keep test xs in
+    elim (cases_Bool (keep x)) [
+      | inl k ↦ elim (cases_Bool (test x)) [ inl t ↦ rw (k, t) (omega (arith, ih)) | inr t ↦ rw (k, t) ih ]
+      | inr k ↦ rw k ih
+    ]
+
+fewer-kept : (less more test : TxId × Mark → Bool) (xs : Options) → ((x : TxId × Mark) → less x ≡ true → more x ≡ true) → length (filter test (filter less xs)) ≤ length (filter test (filter more xs))
+fewer-kept less more test [] h = omega arith
+fewer-kept less more test (x ∷ xs) h =
+    let ih = fewer-kept less more test xs h in
+    elim (cases_Bool (less x)) [
+      | inl l ↦ let m = h x l in elim (cases_Bool (test x)) [ inl t ↦ rw (l, m, t) (omega (arith, ih)) | inr t ↦ rw (l, m, t) ih ]
+      | inr l ↦ elim (cases_Bool (more x)) [
+        | inl m ↦ elim (cases_Bool (test x)) [ inl t ↦ rw (l, m, t) (omega (arith, ih)) | inr t ↦ rw (l, m, t) ih ]
+        | inr m ↦ rw (l, m) ih
+      ]
+    ]
+
+one-kept : (keep test : TxId × Mark → Bool) (votes : Options) (e : TxId × Mark) → length (filter test (filter keep (with_entry votes e))) ≤ length (filter test (filter keep votes)) + cond (test e) 1 0
+one-kept keep test votes e =
+    let a = both-tests keep test (with_entry votes e) in
+    let b = both-tests keep test votes in
+    let c : length (filter (λ x. keep x && test x) (with_entry votes e)) ≤ length (filter (λ x. keep x && test x) votes) + cond (keep e && test e) 1 0 = count-with_entry (λ x. keep x && test x) votes e in
+    let d : cond (keep e && test e) 1 0 ≤ cond (test e) 1 0 = less (keep e) (test e) in
+    omega (arith, a, b, c, d)
+  where
+    less : (x y : Bool) → cond (x && y) 1 0 ≤ cond y 1 0
+    less true y = omega arith
+    less false true = omega arith
+    less false false = omega arith
+
+-- a mark that is forgotten stays so
+kept-before : (f : Fact) (facts : List Fact) (key : Key) (version : ℕ) (x : TxId × Mark) → not (is_forgotten (f ∷ facts) key version x.0) ≡ true → not (is_forgotten facts key version x.0) ≡ true
+kept-before f facts key version x h =
+    elim (cases_Bool (is_forgotten facts key version x.0)) [
+      | inl e ↦
+          let p = and_parts (is_finished facts x.0) (nat_lt version (current_of facts key)) e in
+          let still : is_forgotten (f ∷ facts) key version x.0 ≡ true =
+          and_from (is_finished (f ∷ facts) x.0) (nat_lt version (current_of (f ∷ facts) key)) (finished-more f facts x.0 p.0) (lt-ltb version (current_of (f ∷ facts) key) (more version (current_of facts key) (version_from key f) (ltb-true version (current_of facts key) p.1))) in
+          absurd (true≢false (sym h ∙ ap not still))
+      | inr e ↦ ap not e
+    ]
+  where
+    more : (a b c : ℕ) → a < b → a < max b c
+    more a b c l = omega (arith, l)
+
+few-kept : (f : Fact) (facts : List Fact) (key : Key) (version : ℕ) (votes : Options) → AreFew 512 16384 (without_forgotten facts key version votes) → AreFew 512 16384 (without_forgotten (f ∷ facts) key version votes)
+few-kept f facts key version votes h =
+    let keep : TxId × Mark → Bool = λ e. not (is_forgotten facts key version e.0) in
+    let less : TxId × Mark → Bool = λ e. not (is_forgotten (f ∷ facts) key version e.0) in
+    let a = fewer-kept less keep (λ e. is_accept e.1) votes (λ x g. kept-before f facts key version x g) in
+    let b = fewer-kept less keep (λ e. not (is_accept e.1)) votes (λ x g. kept-before f facts key version x g) in
+    record { accepted = omega (arith, h.accepted, a); rejected = omega (arith, h.rejected, b) }
+
 one-more : (facts : List Fact) (key : Key) (version : ℕ) (tx : TxId) (mark : Mark) → LeavesRoomAt facts key version mark
-    → AreFew 512 16384 (votes_of facts key version fast_ballot) → AreFew 512 16384 (with_entry (votes_of facts key version fast_ballot) (tx, mark))
+    → AreFew 512 16384 (shown_of facts key version fast_ballot) → AreFew 512 16384 (ShownWith facts key version ((tx, mark) ∷ []))
 one-more facts key version tx (Mark.Accept choice) room h =
+    let keep : TxId × Mark → Bool = λ e. not (is_forgotten facts key version e.0) in
     let votes = votes_of facts key version fast_ballot in
-    let a : length (accepts_in (with_entry votes (tx, Mark.Accept choice))) ≤ length (accepts_in votes) + 1 = count-with_entry (λ e. is_accept e.1) votes (tx, Mark.Accept choice) in
-    let b : length (rejects_in (with_entry votes (tx, Mark.Accept choice))) ≤ length (rejects_in votes) + 0 = count-with_entry (λ e. not (is_accept e.1)) votes (tx, Mark.Accept choice) in
+    let a : length (accepts_in (filter keep (with_entry votes (tx, Mark.Accept choice)))) ≤ length (accepts_in (filter keep votes)) + 1 = one-kept keep (λ e. is_accept e.1) votes (tx, Mark.Accept choice) in
+    let b : length (rejects_in (filter keep (with_entry votes (tx, Mark.Accept choice)))) ≤ length (rejects_in (filter keep votes)) + 0 = one-kept keep (λ e. not (is_accept e.1)) votes (tx, Mark.Accept choice) in
     record { accepted = omega (arith, room, a); rejected = omega (arith, h.rejected, b) }
 one-more facts key version tx Mark.Reject room h =
+    let keep : TxId × Mark → Bool = λ e. not (is_forgotten facts key version e.0) in
     let votes = votes_of facts key version fast_ballot in
-    let a : length (accepts_in (with_entry votes (tx, Mark.Reject))) ≤ length (accepts_in votes) + 0 = count-with_entry (λ e. is_accept e.1) votes (tx, Mark.Reject) in
-    let b : length (rejects_in (with_entry votes (tx, Mark.Reject))) ≤ length (rejects_in votes) + 1 = count-with_entry (λ e. not (is_accept e.1)) votes (tx, Mark.Reject) in
+    let a : length (accepts_in (filter keep (with_entry votes (tx, Mark.Reject)))) ≤ length (accepts_in (filter keep votes)) + 0 = one-kept keep (λ e. is_accept e.1) votes (tx, Mark.Reject) in
+    let b : length (rejects_in (filter keep (with_entry votes (tx, Mark.Reject)))) ≤ length (rejects_in (filter keep votes)) + 1 = one-kept keep (λ e. not (is_accept e.1)) votes (tx, Mark.Reject) in
     record { accepted = omega (arith, h.accepted, a); rejected = omega (arith, room, b) }
 
 vote-few : (cluster : Cluster) (facts : List Fact) (key : Key) (version : ℕ) (options : Options) (offered : Option Choice) → IsFastVote cluster facts key version options offered
-    → AreFew 512 16384 (votes_of facts key version fast_ballot) → AreFew 512 16384 (union (votes_of facts key version fast_ballot) options)
+    → AreFew 512 16384 (shown_of facts key version fast_ballot) → AreFew 512 16384 (ShownWith facts key version options)
 vote-few cluster facts key version ((tx, Mark.Accept choice) ∷ []) None may h =
     one-more facts key version tx (Mark.Accept choice) (may-leaves cluster facts key version tx (Mark.Accept choice) choice may) h
 vote-few cluster facts key version ((tx, Mark.Reject) ∷ []) (Some choice) may h =
@@ -109,7 +176,7 @@ vote-few cluster facts key version ((tx, Mark.Reject) ∷ []) None may h = absur
 vote-few cluster facts key version ((tx, Mark.Accept choice) ∷ e ∷ es) offered may h = absurd may
 vote-few cluster facts key version ((tx, Mark.Reject) ∷ e ∷ es) offered may h = absurd may
 
-pub fast-few : (cluster : Cluster) (es : List Entry) (a : ℕ) (key : Key) (version : ℕ) → IsAllowed cluster es → AreFew 512 16384 (votes_of (facts_of es a) key version fast_ballot)
+pub fast-few : (cluster : Cluster) (es : List Entry) (a : ℕ) (key : Key) (version : ℕ) → IsAllowed cluster es → AreFew 512 16384 (shown_of (facts_of es a) key version fast_ballot)
 fast-few cluster [] a key version legal = record { accepted = omega arith; rejected = omega arith }
 fast-few cluster (Entry.Begun c tx choices ∷ es) a key version legal = fast-few cluster es a key version legal.0
 fast-few cluster (Valued c k v b options ∷ es) a key version legal = fast-few cluster es a key version legal.0
@@ -119,12 +186,13 @@ fast-few cluster (Added c fact ∷ es) a key version legal =
       | inr e ↦ rw e (fast-few cluster es a key version legal.0)
     ]
   where
-    by_fact : (fact : Fact) → IsAllowed cluster (Added c fact ∷ es) → c ≡ a → AreFew 512 16384 (votes_of (facts_of es a) key version fast_ballot)
-        → AreFew 512 16384 (votes_of (fact ∷ facts_of es a) key version fast_ballot)
-    by_fact (Fact.Booted epoch) legal s h = h
-    by_fact (Fact.Promised k low high b) legal s h = h
-    by_fact (Fact.Heard tx outcome) legal s h = h
-    by_fact (Fact.Adopted k v item adds) legal s h = h
+    by_fact : (fact : Fact) → IsAllowed cluster (Added c fact ∷ es) → c ≡ a → AreFew 512 16384 (shown_of (facts_of es a) key version fast_ballot)
+        → AreFew 512 16384 (shown_of (fact ∷ facts_of es a) key version fast_ballot)
+    by_fact (Fact.Booted epoch) legal s h = few-kept (Fact.Booted epoch) (facts_of es a) key version (votes_of (facts_of es a) key version fast_ballot) h
+    by_fact (Fact.Promised k low high b) legal s h = few-kept (Fact.Promised k low high b) (facts_of es a) key version (votes_of (facts_of es a) key version fast_ballot) h
+    by_fact (Fact.Heard tx outcome) legal s h = few-kept (Fact.Heard tx outcome) (facts_of es a) key version (votes_of (facts_of es a) key version fast_ballot) h
+    by_fact (Fact.Adopted k v item adds) legal s h = few-kept (Fact.Adopted k v item adds) (facts_of es a) key version (votes_of (facts_of es a) key version fast_ballot) h
+    by_fact (Fact.Floor origin era upto) legal s h = few-kept (Fact.Floor origin era upto) (facts_of es a) key version (votes_of (facts_of es a) key version fast_ballot) h
     by_fact (Fact.Voted k v b options offered) legal s h =
         elim (cases_Bool (v == version && ballot_eq b fast_ballot && key_eq k key)) [
           | inl e ↦
@@ -135,8 +203,13 @@ fast-few cluster (Added c fact ∷ es) a key version legal =
               subst (λ z. IsFastVote cluster (facts_of es z) key version options offered) s
               (subst (λ z. IsFastVote cluster (facts_of es c) key z options offered) p.version
               (subst (λ z. IsFastVote cluster (facts_of es c) z v options offered) p.key may)) in
-              rw e (vote-few cluster (facts_of es a) key version options offered there h)
-          | inr e ↦ rw e h
+              let voted : votes_of (Fact.Voted k v b options offered ∷ facts_of es a) key version fast_ballot ≡ union (votes_of (facts_of es a) key version fast_ballot) options = rw e refl in
+              subst (λ (z : Options). AreFew 512 16384 (without_forgotten (Fact.Voted k v b options offered ∷ facts_of es a) key version z)) (sym voted)
+              (few-kept (Fact.Voted k v b options offered) (facts_of es a) key version (union (votes_of (facts_of es a) key version fast_ballot) options) (vote-few cluster (facts_of es a) key version options offered there h))
+          | inr e ↦
+              let voted : votes_of (Fact.Voted k v b options offered ∷ facts_of es a) key version fast_ballot ≡ votes_of (facts_of es a) key version fast_ballot = rw e refl in
+              subst (λ (z : Options). AreFew 512 16384 (without_forgotten (Fact.Voted k v b options offered ∷ facts_of es a) key version z)) (sym voted)
+              (few-kept (Fact.Voted k v b options offered) (facts_of es a) key version (votes_of (facts_of es a) key version fast_ballot) h)
         ]
 
 -- ---- classic ballots
@@ -217,30 +290,40 @@ nothing-voted [] none = record { accepted = omega arith; rejected = omega arith 
 nothing-voted (e ∷ es) none = let here = none e.0 in let same = tx-refl e.0 in absurd (let bad = rw same at here in cc)
 
 classic-few : (cluster : Cluster) (es : List Entry) (a : ℕ) (key : Key) (version : ℕ) (ballot : Ballot) → IsLedger cluster es → is_fast ballot ≡ false
-    → AreFew 1023 32767 (votes_of (facts_of es a) key version ballot)
+    → AreFew 1023 32767 (shown_of (facts_of es a) key version ballot)
 classic-few cluster es a key version ballot ledger classic =
     elim (backed cluster es a key version ballot ledger.allowed classic) [
-      | inl none ↦ nothing-voted votes none
+      | inl none ↦ nothing-voted shown (λ tx. no-mark (value_of shown tx) (λ mark h. let bad : None ≡ Some mark = sym (none tx) ∙ shown-voted (facts_of es a) key version ballot tx mark h in absurd (cc)))
       | inr sent ↦
           let few = room_sent cluster es ledger key version ballot sent.structure sent.was in
-          let once = once-votes (facts_of es a) key version ballot in
-          let found : (tx : TxId) (mark : Mark) → value_of votes tx ≡ Some mark → value_of sent.structure tx ≡ Some mark = λ tx mark h. sym (sent.same tx) ∙ h in
-          let a : length (accepts_in votes) ≤ length (accepts_in sent.structure) = no-more (λ e. is_accept e.1) votes sent.structure once found in
-          let b : length (rejects_in votes) ≤ length (rejects_in sent.structure) = no-more (λ e. not (is_accept e.1)) votes sent.structure once found in
+          let once = once-filter (λ (e : TxId × Mark). not (is_forgotten (facts_of es a) key version e.0)) votes (once-votes (facts_of es a) key version ballot) in
+          let found : (tx : TxId) (mark : Mark) → value_of shown tx ≡ Some mark → value_of sent.structure tx ≡ Some mark = λ tx mark h. of-structure (value_of votes tx) (value_of sent.structure tx) mark (shown-voted (facts_of es a) key version ballot tx mark h) (sent.same tx) in
+          let a : length (accepts_in shown) ≤ length (accepts_in sent.structure) = no-more (λ e. is_accept e.1) shown sent.structure once found in
+          let b : length (rejects_in shown) ≤ length (rejects_in sent.structure) = no-more (λ e. not (is_accept e.1)) shown sent.structure once found in
           record { accepted = omega (arith, few.0, a); rejected = omega (arith, few.1, b) }
     ]
   where
     votes : Options
     votes = votes_of (facts_of es a) key version ballot
 
+    shown : Options
+    shown = shown_of (facts_of es a) key version ballot
+
+    no-mark : (o : Option Mark) → ((mark : Mark) → o ≡ Some mark → ⊥) → o ≡ None
+    no-mark None h = refl
+    no-mark (Some mark) h = absurd (h mark refl)
+
+    of-structure : {P : Type 0} (v w : Option Mark) (mark : Mark) → v ≡ Some mark → (v ≡ w) ⊎ ((v ≡ None) × P) → w ≡ Some mark
+    of-structure v w mark h same = elim same [ inl e ↦ sym e ∙ h | inr n ↦ let bad : None ≡ Some mark = sym n.0 ∙ h in absurd (cc) ]
+
 -- ---- both
 
-pub votes-few : (cluster : Cluster) (es : List Entry) (a : ℕ) (key : Key) (version : ℕ) (ballot : Ballot) → IsLedger cluster es → AreFew 1023 32767 (votes_of (facts_of es a) key version ballot)
+pub votes-few : (cluster : Cluster) (es : List Entry) (a : ℕ) (key : Key) (version : ℕ) (ballot : Ballot) → IsLedger cluster es → AreFew 1023 32767 (shown_of (facts_of es a) key version ballot)
 votes-few cluster es a key version ballot ledger =
     elim (cases_Bool (is_fast ballot)) [
       | inl e ↦
           let few = fast-few cluster es a key version ledger.allowed in
-          let more : AreFew 1023 32767 (votes_of (facts_of es a) key version fast_ballot) = record { accepted = omega (arith, few.accepted); rejected = omega (arith, few.rejected) } in
-          subst (λ z. AreFew 1023 32767 (votes_of (facts_of es a) key version z)) (sym ((Decides-ballot ballot fast_ballot).0 e)) more
+          let more : AreFew 1023 32767 (shown_of (facts_of es a) key version fast_ballot) = record { accepted = omega (arith, few.accepted); rejected = omega (arith, few.rejected) } in
+          subst (λ z. AreFew 1023 32767 (shown_of (facts_of es a) key version z)) (sym ((Decides-ballot ballot fast_ballot).0 e)) more
       | inr e ↦ classic-few cluster es a key version ballot ledger e
     ]

@@ -14,7 +14,7 @@ use Rattle.mdcc_option.specs.declared.items.Part.{Part}
 use Rattle.mdcc_option.specs.declared.schema.Schema.{Schema}
 use Rattle.mdcc_struct.specs.Maps.{TxMap, value_of}
 use Rattle.mdcc_ledger.specs.AllowedLedgers.{IsAllowed, part_in}
-use Rattle.mdcc_protocol.specs.Facts.{is_heard, unresolved_of, write_sets_of}
+use Rattle.mdcc_protocol.specs.Facts.{is_settled, unresolved_of, write_sets_of}
 use Rattle.mdcc_protocol.specs.Fit.{has_tx}
 use Rattle.mdcc_ledger.specs.Ledger.{Added, Entry, Valued, choices_begun, facts_of}
 use Rattle.mdcc_protocol.specs.Manager.{keys_of_choices}
@@ -102,7 +102,7 @@ sets_dangling es a opened = dangling (facts_of es a) opened
 pub dangling-set : (cluster : Cluster) (es : List Entry) (a : ℕ) (opened : List TxId) (e : TxId × List (Key × ℕ)) → IsAllowed cluster es → IsSound es → In e (dangling (facts_of es a) opened) → HasSet es e.0 e.1
 dangling-set cluster es a opened e legal sound i =
     let j = In-filter (λ (e : TxId × List (Key × ℕ)). not (has_tx opened e.0)) (unresolved_of (facts_of es a)) e i in
-    let k = In-filter (λ (e : TxId × List (Key × ℕ)). not (is_heard (facts_of es a) e.0)) (write_sets_of (facts_of es a)) e j.0 in
+    let k = In-filter (λ (e : TxId × List (Key × ℕ)). not (is_settled (facts_of es a) e.0)) (write_sets_of (facts_of es a)) e j.0 in
     let s = sound.sets a e.0 e.1 (once-value (write_sets_of (facts_of es a)) e (once-sets (facts_of es a)) k.0) in
     record { choice = s.0; begun = s.1; same = s.2 }
 
@@ -123,6 +123,6 @@ pub dangling-few : (cluster : Cluster) (es : List Entry) (a : ℕ) (opened : Lis
 dangling-few cluster es a opened legal sound =
     once-few es (dangling (facts_of es a) opened)
     (once-filter (λ (e : TxId × List (Key × ℕ)). not (has_tx opened e.0)) (unresolved_of (facts_of es a))
-    (once-filter (λ (e : TxId × List (Key × ℕ)). not (is_heard (facts_of es a) e.0)) (write_sets_of (facts_of es a)) (once-sets (facts_of es a))))
+    (once-filter (λ (e : TxId × List (Key × ℕ)). not (is_settled (facts_of es a) e.0)) (write_sets_of (facts_of es a)) (once-sets (facts_of es a))))
     (Each-from (λ (e : TxId × List (Key × ℕ)). 0 < length (choices_begun es e.0)) (dangling (facts_of es a) opened)
     (λ e i. let s = dangling-set cluster es a opened e legal sound i in some-in s.choice (choices_begun es e.0) s.begun))

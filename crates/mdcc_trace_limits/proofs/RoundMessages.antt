@@ -15,13 +15,12 @@ use Rattle.mdcc_option.specs.declared.choices.Outcome.{Outcome}
 use Rattle.mdcc_option.specs.declared.cluster.Cluster.{Cluster}
 use Rattle.mdcc_struct.specs.declared.options.Options.{Options}
 use Rattle.mdcc_protocol.specs.Acceptor.{answer_to_marks, new_marks, on_accept, on_prepare, on_propose, promise_answer, range_end}
-use Rattle.mdcc_rules.specs.AcceptorRules.{accepted_step, all_votes_sent, ask_step_by, prepared_step, proposed_step, votes_sent}
-use Rattle.mdcc_protocol.specs.Facts.{current_of, epoch_of, heard_of, is_heard, promise_of, promised_through, vote_of}
+use Rattle.mdcc_rules.specs.AcceptorRules.{accepted_step, all_votes_sent, ask_step_after, ask_step_by, prepared_step, proposed_step, votes_sent}
+use Rattle.mdcc_protocol.specs.Facts.{current_of, epoch_of, is_finished, is_settled, outcome_kept, promise_of, promised_through, vote_of}
 use Rattle.mdcc_protocol.specs.Leader.{claim_of_choice, is_marked, lead, on_promise}
 use Rattle.mdcc_rules.specs.LeaderRules.{lead_entries, lead_sent, lead_step_after, led_by_answer, led_of, promise_entries, promise_sent, promised_by_answer, step_of_led}
 use Rattle.mdcc_ledger.specs.Ledger.{Entry, Valued, facts_of}
 use Rattle.mdcc_protocol.specs.Manager
-use Rattle.mdcc_protocol.specs.Manager.{acted}
 use Rattle.mdcc_rules.specs.ManagerRules.{act_sent, acted_step, decided_step, opened_step, undecided_step, voted_step, watched_step}
 use Rattle.mdcc_protocol.specs.Marks.{is_accept}
 use Rattle.mdcc_protocol.specs.News.{is_crowding, is_news}
@@ -47,6 +46,7 @@ use Rattle.mdcc_protocol.specs.declared.votes.Vote.{Vote}
 use Rattle.mdcc_trace_rules.proofs.Begins.{Each-flat_map}
 use Rattle.mdcc_trace_limits.proofs.RoundSteps.{AreRoundFacts, AreRoundSends, IsRound, IsRoundFact, IsRoundLeader, IsRoundLed, each-round, leader-more, led-round, promise-round, promised-round, raised, refused-round, sends-more, voted-round}
 use Rattle.mdcc_rules.specs.Here.{here}
+use Rattle.mdcc_rules.specs.Messages.{to_one}
 
 -- ---- single steps
 
@@ -87,6 +87,7 @@ heard-round key r t o = λ v. omega arith
 
 proposed-fine : (key : Key) (r me : ℕ) (volatile : Volatile) (s : ℕ) (choice : Choice) (answer : ProposeAnswer) → IsRoundLeader key r volatile.leader → IsRoundStep key r (proposed_step me volatile s choice answer)
 proposed-fine key r me volatile s choice (ProposeAnswer.Known outcome) l = sending-round key r volatile _ l (tt, tt)
+proposed-fine key r me volatile s choice ProposeAnswer.Finished l = sending-round key r volatile _ l (tt, tt)
 proposed-fine key r me volatile s choice (ProposeAnswer.Again ballot mark) l = sending-round key r volatile _ l (tt, tt)
 proposed-fine key r me volatile s choice (ProposeAnswer.Escalate cause) l = sending-round key r volatile _ l (tt, tt)
 proposed-fine key r me volatile s choice (ProposeAnswer.Vote mark) l = adding-round key r volatile _ _ (voted-round key r choice.key choice.version fast_ballot ((choice.tx, mark) ∷ []) (cond (is_accept mark) None (Some choice)) (λ e. omega arith)) l (tt, tt)
@@ -102,7 +103,7 @@ prepared-fine key r me facts volatile s k v w b f l h = pick (ballot_lt b (promi
 
 all-votes-fine : (key : Key) (r me : ℕ) (facts : List Fact) (k : Key) (v : ℕ) (b : Ballot) (os : Options) → AreRoundSends key r (all_votes_sent me facts k v b os)
 all-votes-fine key r me facts k v b os =
-    Each-flat_map (λ (env : Envelope). IsRound key r env.message) (votes_sent me k v b) (filter (λ (e : TxId × Mark). not (is_heard facts e.0)) os) (λ e i. each-round key r me (Message.Voted k v b e.0 e.1) _ tt)
+    Each-flat_map (λ (env : Envelope). IsRound key r env.message) (votes_sent me k v b) (filter (λ (e : TxId × Mark). not (is_settled facts e.0)) os) (λ e i. each-round key r me (Message.Voted k v b e.0 e.1) _ tt)
 
 accepted-fine : (key : Key) (r me : ℕ) (facts : List Fact) (volatile : Volatile) (s : ℕ) (k : Key) (v : ℕ) (b : Ballot) (os : Options) → AreRoundFacts key r facts → IsRoundLeader key r volatile.leader → (k ≡ key → b.round ≤ r) →
     IsRoundStep key r (accepted_step me facts volatile s k v b os (on_accept facts k v b os))
@@ -114,13 +115,17 @@ accepted-fine key r me facts volatile s k v b os f l h = pick (ballot_lt b (prom
     pick false false [] = sending-round key r volatile _ l (all-votes-fine key r me facts k v b os)
     pick false false (m ∷ ms) = adding-round key r volatile _ _ (voted-round key r k v b (new_marks facts k v b os) None h) l (all-votes-fine key r me facts k v b (new_marks facts k v b os))
 
-asked-fine : (key : Key) (r me : ℕ) (volatile : Volatile) (s : ℕ) (t : TxId) (k : Key) (v : ℕ) (o : Option Outcome) (x : Option (Ballot × Mark)) → IsRoundLeader key r volatile.leader → IsRoundStep key r (ask_step_by me volatile s t k v o x)
-asked-fine key r me volatile s t k v (Some o) x l = sending-round key r volatile _ l (tt, tt)
-asked-fine key r me volatile s t k v None (Some x) l = sending-round key r volatile _ l (tt, tt)
-asked-fine key r me volatile s t k v None None l = done-round key r volatile l
+asked-fine : (key : Key) (r me : ℕ) (facts : List Fact) (volatile : Volatile) (s : ℕ) (t : TxId) (k : Key) (v : ℕ) (o : Option Outcome) → IsRoundLeader key r volatile.leader → IsRoundStep key r (ask_step_by me facts volatile s t k v o)
+asked-fine key r me facts volatile s t k v (Some o) l = sending-round key r volatile _ l (tt, tt)
+asked-fine key r me facts volatile s t k v None l = pick (is_finished facts t) (vote_of facts k v t)
+  where
+    pick : (b : Bool) (x : Option (Ballot × Mark)) → IsRoundStep key r (cond b (sending volatile (to_one me s (Message.Finished t))) (ask_step_after me volatile s t k v x))
+    pick true x = sending-round key r volatile _ l (tt, tt)
+    pick false (Some x) = sending-round key r volatile _ l (tt, tt)
+    pick false None = done-round key r volatile l
 
 outcome-fine : (key : Key) (r : ℕ) (volatile : Volatile) (facts : List Fact) (t : TxId) (o : Outcome) → IsRoundLeader key r volatile.leader → IsRoundStep key r (outcome_step_by volatile t (on_outcome facts t o))
-outcome-fine key r volatile facts t o l = pick (is_heard facts t)
+outcome-fine key r volatile facts t o l = pick (is_settled facts t)
   where
     pick : (b : Bool) → IsRoundStep key r (outcome_step_by volatile t (cond b None (Some (Fact.Heard t o))))
     pick true = done-round key r volatile l
@@ -152,7 +157,7 @@ decided-fine key r cluster me volatile t o l = adding-round key r (closed volati
 
 voted-fine : (key : Key) (r : ℕ) (cluster : Cluster) (me : ℕ) (facts : List Fact) (volatile : Volatile) (vote : Vote) → IsRoundLeader key r volatile.leader → IsRoundStep key r (voted_step (here cluster me facts) volatile vote)
 voted-fine key r cluster me facts volatile vote l =
-    elim (cases_Bool (is_heard facts vote.tx)) [
+    elim (cases_Bool (is_settled facts vote.tx)) [
       | inl e ↦ rw e (done-round key r volatile l)
       | inr e ↦ rw e (elim (cases_Bool (is_open volatile.manager vote.tx)) [ inl f ↦ rw f (opened _) | inr f ↦ rw f (watched _) ])
     ]
@@ -217,9 +222,13 @@ lead-fine : (key : Key) (r : ℕ) (cluster : Cluster) (me : ℕ) (facts : List F
     IsRoundResult key (r + 1) (lead_step_after (here cluster me facts) volatile s choice o)
 lead-fine key r cluster me facts volatile s choice (Some o) f l = sending-round key (r + 1) volatile _ (leader-more key r (r + 1) volatile.leader (omega arith) l) (tt, tt)
 lead-fine key r cluster me facts volatile s choice None f l =
-    result-more key (raised key choice.key r) (r + 1) (step_of_led (led_of (here cluster me facts) volatile (claim_of_choice choice))) (raised-most key choice.key r)
-    (led-fine key (raised key choice.key r) volatile (led_of (here cluster me facts) volatile (claim_of_choice choice)) (λ es a led e. led-of-plain cluster me facts volatile (claim_of_choice choice) es a led e)
-    (led-round key r cluster me facts volatile (claim_of_choice choice) f l))
+    elim (cases_Bool (is_finished facts choice.tx)) [
+      | inl e ↦ rw e (sending-round key (r + 1) volatile _ (leader-more key r (r + 1) volatile.leader (omega arith) l) (tt, tt))
+      | inr e ↦ rw e (
+          result-more key (raised key choice.key r) (r + 1) (step_of_led (led_of (here cluster me facts) volatile (claim_of_choice choice))) (raised-most key choice.key r)
+          (led-fine key (raised key choice.key r) volatile (led_of (here cluster me facts) volatile (claim_of_choice choice)) (λ es a led e. led-of-plain cluster me facts volatile (claim_of_choice choice) es a led e)
+          (led-round key r cluster me facts volatile (claim_of_choice choice) f l)))
+    ]
 
 -- ---- messages
 
@@ -234,7 +243,7 @@ message-fine key r cluster me facts volatile s m f l h = by_message m h
     by_message (Message.Propose choice) h = more _ (proposed-fine key r me volatile s choice (on_propose cluster facts choice) l)
     by_message (Message.Voted k v b t x) h = more _ (voted-fine key r cluster me facts volatile _ l)
     by_message (Message.Escalate k v t cause) h = more _ (acted-fine key r me facts volatile (Manager.on_escalate cluster.quorums volatile.manager s t k cause) l)
-    by_message (Message.Lead choice) h = lead-fine key r cluster me facts volatile s choice (heard_of facts choice.tx) f l
+    by_message (Message.Lead choice) h = lead-fine key r cluster me facts volatile s choice (outcome_kept facts choice.tx) f l
     by_message (Message.Prepare k v w b) h = more _ (prepared-fine key r me facts volatile s k v w b f l h)
     by_message (Message.Promise k v w b q os) h =
         result-more key r (r + 1) (step_of_led (promised_by_answer cluster.quorums me volatile k (on_promise cluster facts volatile.leader s (record { key = k; version = v; through = w; ballot = b; reported = q; votes = os })))) (omega arith)
@@ -244,9 +253,11 @@ message-fine key r cluster me facts volatile s m f l h = by_message m h
     by_message (Message.Accept k v b os) h = more _ (accepted-fine key r me facts volatile s k v b os f l h)
     by_message (Message.Refused k v b p) h = more _ (done-round key r _ (refused-round key r volatile.leader k b p (lead_of volatile.leader k) refl h l))
     by_message (Message.Outcome t o) h = more _ (outcome-fine key r volatile facts t o l)
-    by_message (Message.Ask t k v) h = more _ (asked-fine key r me volatile s t k v (heard_of facts t) (vote_of facts k v t) l)
+    by_message (Message.Ask t k v) h = more _ (asked-fine key r me facts volatile s t k v (outcome_kept facts t) l)
     by_message (Message.SyncAsk k) h = more _ (sending-round key r volatile _ l (give-sends key r me s (on_sync_ask facts k)))
     by_message (Message.SyncGive k v item adds) h = more _ (given-fine key r volatile (is_news facts k v adds) (record { key = k; version = v; item = item; adds = adds }) l)
+    by_message (Message.Mark centre era upto) h = more _ (done-round key r volatile l)
+    by_message (Message.Finished t) h = more _ (done-round key r (closed volatile t) l)
     by_message (Message.ClientRead n k) h = more _ (done-round key r volatile l)
     by_message (Message.ClientBegin n ps) h = more _ (done-round key r volatile l)
     by_message (Message.ClientAnswer n x) h = more _ (done-round key r volatile l)

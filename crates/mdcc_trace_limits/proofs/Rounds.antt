@@ -224,6 +224,7 @@ calm-walk cluster sizes = record {
     sent-round : (t d : ℕ) (w : World) (input : Input) → AreCalm t d w → (key : Key) → IsSentInput w input → IsRoundInput key (most_rounds t d) input
     sent-round t d w (Input.Message env) p key i = listed (λ (env : Envelope). IsRound key (most_rounds t d) env.message) w.sent env (p.rounds key).sent i
     sent-round t d w Input.Tick p key i = tt
+    sent-round t d w Input.Sweep p key i = tt
     sent-round t d w (Input.Read k) p key i = tt
     sent-round t d w (Input.Begin parts) p key i = tt
 
@@ -236,6 +237,14 @@ calm-walk cluster sizes = record {
     input-calm t d w a (Input.Read k) h up p key m =
         world-more key (most_rounds t d) (most_rounds (t + 0) (d + 1)) _ (calm-less (calm-other t d))
         (input-round key (most_rounds t d) w a (step_at w a (Input.Read k)) h up.centre (p.rounds key) (record { fact = λ f e. absurd (cc); leader = (p.rounds key).leaders a up.centre; sends = tt; plain = λ es b. refl }))
+    input-calm t d w a Input.Sweep h up p key m =
+        world-more key (most_rounds t d) (most_rounds (t + 0) (d + 1)) _ (calm-less (calm-other t d))
+        (input-round key (most_rounds t d) w a (step_at w a Input.Sweep) h up.centre (p.rounds key) (record {
+          fact = λ f e. absurd (cc);
+          leader = (p.rounds key).leaders a up.centre;
+          sends = tt;
+          plain = λ es b. refl;
+        }))
     input-calm t d w a (Input.Begin parts) h up p key m =
         world-more key (most_rounds t d) (most_rounds (t + 0) (d + 1)) _ (calm-less (calm-other t d))
         (input-round key (most_rounds t d) w a (step_at w a (Input.Begin parts)) h up.centre (p.rounds key) (begin-round key (most_rounds t d) w.cluster a (facts_of w.ledger a) (centre_at w a).volatile parts ((p.rounds key).leaders a up.centre)))

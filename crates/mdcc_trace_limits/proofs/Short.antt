@@ -265,6 +265,8 @@ short-walk cluster sizes = record {
         other t d w _ 0 (omega arith) p (input-grown 1 0 w a (step_at w a (Input.Message envelope)) h up.centre p.few (message-taken w.cluster a (facts_of w.ledger a) (centre_at w a).volatile envelope (p.few a up.centre)))
     input-short t d w a (Input.Read key) h up fair p =
         other t d w _ 0 (omega arith) p (input-grown 1 0 w a (step_at w a (Input.Read key)) h up.centre p.few (record { weight = omega arith; begun = omega arith; few = p.few a up.centre }))
+    input-short t d w a Input.Sweep h up fair p =
+        other t d w _ 0 (omega arith) p (input-grown 1 0 w a (step_at w a Input.Sweep) h up.centre p.few (record { weight = omega arith; begun = omega arith; few = p.few a up.centre }))
     input-short t d w a (Input.Begin parts) h up fair p =
         other t d w _ 1 (omega arith) p (input-grown 1 1 w a (step_at w a (Input.Begin parts)) h up.centre p.few (begin-taken w.cluster a (facts_of w.ledger a) (centre_at w a).volatile parts (p.few a up.centre)))
     input-short t d w a Input.Tick h up fair p =

@@ -17,8 +17,8 @@ use Rattle.mdcc_option.specs.declared.choices.Outcome.{Outcome}
 use Rattle.mdcc_option.specs.declared.cluster.Cluster.{Cluster}
 use Rattle.mdcc_struct.specs.declared.options.Options.{Options}
 use Rattle.mdcc_protocol.specs.Acceptor.{on_accept, on_prepare, on_propose}
-use Rattle.mdcc_rules.specs.AcceptorRules.{accepted_step, ask_step_by, prepared_step, proposed_step}
-use Rattle.mdcc_protocol.specs.Facts.{epoch_of, heard_of, is_heard, vote_of}
+use Rattle.mdcc_rules.specs.AcceptorRules.{accepted_step, ask_step_after, ask_step_by, prepared_step, proposed_step}
+use Rattle.mdcc_protocol.specs.Facts.{epoch_of, is_finished, is_settled, outcome_kept, vote_of}
 use Rattle.mdcc_protocol.specs.Leader.{claim_of_choice, is_marked, lead}
 use Rattle.mdcc_rules.specs.LeaderRules.{lead_step_after, led_by_answer, led_of, promised_by_answer, step_of_led}
 use Rattle.mdcc_protocol.specs.Learner.{is_learned}
@@ -50,6 +50,7 @@ use Rattle.mdcc_protocol.specs.declared.recover.RecoverAct.{RecoverAct}
 use Rattle.mdcc_protocol.specs.declared.votes.Vote.{Vote}
 use Rattle.mdcc_trace_states.specs.Words.{Each}
 use Rattle.mdcc_rules.specs.Here.{here}
+use Rattle.mdcc_rules.specs.Messages.{to_one}
 
 abbrev pub is_begin : Entry → Bool
 is_begin (Entry.Begun a tx choices) = true
@@ -100,6 +101,7 @@ closed-few volatile tx = filter-few (λ (t : Undecided). not (tx_eq t.tx tx)) vo
 
 proposed-small : (me : ℕ) (volatile : Volatile) (s : ℕ) (choice : Choice) (answer : ProposeAnswer) → IsSmall volatile (proposed_step me volatile s choice answer)
 proposed-small me volatile s choice (ProposeAnswer.Known outcome) = sending-small volatile volatile _ (same volatile)
+proposed-small me volatile s choice ProposeAnswer.Finished = sending-small volatile volatile _ (same volatile)
 proposed-small me volatile s choice (ProposeAnswer.Again ballot mark) = sending-small volatile volatile _ (same volatile)
 proposed-small me volatile s choice (ProposeAnswer.Escalate cause) = sending-small volatile volatile _ (same volatile)
 proposed-small me volatile s choice (ProposeAnswer.Vote mark) = adding-small volatile volatile _ _ (same volatile)
@@ -115,10 +117,14 @@ accepted-small me facts volatile l k v b os (AcceptAnswer.Behind current) = send
 accepted-small me facts volatile l k v b os AcceptAnswer.Older = sending-small volatile volatile _ (same volatile)
 accepted-small me facts volatile l k v b os AcceptAnswer.Vote = adding-small volatile volatile _ _ (same volatile)
 
-asked-small : (me : ℕ) (volatile : Volatile) (s : ℕ) (t : TxId) (k : Key) (v : ℕ) (o : Option Outcome) (x : Option (Ballot × Mark)) → IsSmall volatile (ask_step_by me volatile s t k v o x)
-asked-small me volatile s t k v (Some o) x = sending-small volatile volatile _ (same volatile)
-asked-small me volatile s t k v None (Some x) = sending-small volatile volatile _ (same volatile)
-asked-small me volatile s t k v None None = done-small volatile volatile (same volatile)
+asked-small : (me : ℕ) (facts : List Fact) (volatile : Volatile) (s : ℕ) (t : TxId) (k : Key) (v : ℕ) (o : Option Outcome) → IsSmall volatile (ask_step_by me facts volatile s t k v o)
+asked-small me facts volatile s t k v (Some o) = sending-small volatile volatile _ (same volatile)
+asked-small me facts volatile s t k v None = pick (is_finished facts t) (vote_of facts k v t)
+  where
+    pick : (b : Bool) (x : Option (Ballot × Mark)) → IsSmall volatile (cond b (sending volatile (to_one me s (Message.Finished t))) (ask_step_after me volatile s t k v x))
+    pick true x = sending-small volatile volatile _ (same volatile)
+    pick false (Some x) = sending-small volatile volatile _ (same volatile)
+    pick false None = done-small volatile volatile (same volatile)
 
 outcome-small : (volatile : Volatile) (t : TxId) (o : Option Fact) → IsSmall volatile (outcome_step_by volatile t o)
 outcome-small volatile t None = done-small volatile volatile (same volatile)
@@ -170,7 +176,7 @@ watched-small cluster me facts volatile vote None = done-small volatile (with_re
 
 voted-small : (cluster : Cluster) (me : ℕ) (facts : List Fact) (volatile : Volatile) (vote : Vote) → IsSmall volatile (voted_step (here cluster me facts) volatile vote)
 voted-small cluster me facts volatile vote =
-    elim (cases_Bool (is_heard facts vote.tx)) [
+    elim (cases_Bool (is_settled facts vote.tx)) [
       | inl e ↦ rw e (done-small volatile volatile (same volatile))
       | inr e ↦ rw e (elim (cases_Bool (is_open volatile.manager vote.tx)) [
         | inl f ↦ rw f (opened-small cluster me facts volatile vote _)
@@ -220,7 +226,11 @@ step-small volatile (Err fault) h = tt
 
 lead-small : (cluster : Cluster) (me : ℕ) (facts : List Fact) (volatile : Volatile) (s : ℕ) (choice : Choice) (o : Option Outcome) → IsSmallResult volatile (lead_step_after (here cluster me facts) volatile s choice o)
 lead-small cluster me facts volatile s choice (Some o) = sending-small volatile volatile _ (same volatile)
-lead-small cluster me facts volatile s choice None = step-small volatile (led_of (here cluster me facts) volatile (claim_of_choice choice)) (led-small cluster me facts volatile (claim_of_choice choice))
+lead-small cluster me facts volatile s choice None =
+    elim (cases_Bool (is_finished facts choice.tx)) [
+      | inl e ↦ rw e (sending-small volatile volatile _ (same volatile))
+      | inr e ↦ rw e (step-small volatile (led_of (here cluster me facts) volatile (claim_of_choice choice)) (led-small cluster me facts volatile (claim_of_choice choice)))
+    ]
 
 -- ---- messages
 
@@ -228,15 +238,17 @@ message-small : (cluster : Cluster) (me : ℕ) (facts : List Fact) (volatile : V
 message-small cluster me facts volatile s (Message.Propose choice) = proposed-small me volatile s choice (on_propose cluster facts choice)
 message-small cluster me facts volatile s (Message.Voted k v b t m) = voted-small cluster me facts volatile _
 message-small cluster me facts volatile s (Message.Escalate k v t cause) = escalate-small cluster me facts volatile s k t cause
-message-small cluster me facts volatile s (Message.Lead choice) = lead-small cluster me facts volatile s choice (heard_of facts choice.tx)
+message-small cluster me facts volatile s (Message.Lead choice) = lead-small cluster me facts volatile s choice (outcome_kept facts choice.tx)
 message-small cluster me facts volatile s (Message.Prepare k v w b) = prepared-small me facts volatile s k v b (on_prepare facts k v w b)
 message-small cluster me facts volatile s (Message.Promise k v w b r os) = step-small volatile _ (promised-small cluster.quorums me volatile k _)
 message-small cluster me facts volatile s (Message.Accept k v b os) = accepted-small me facts volatile s k v b os (on_accept facts k v b os)
 message-small cluster me facts volatile s (Message.Refused k v b p) = done-small volatile _ (same volatile)
 message-small cluster me facts volatile s (Message.Outcome t o) = outcome-small volatile t (on_outcome facts t o)
-message-small cluster me facts volatile s (Message.Ask t k v) = asked-small me volatile s t k v (heard_of facts t) (vote_of facts k v t)
+message-small cluster me facts volatile s (Message.Ask t k v) = asked-small me facts volatile s t k v (outcome_kept facts t)
 message-small cluster me facts volatile s (Message.SyncAsk k) = sending-small volatile volatile _ (same volatile)
 message-small cluster me facts volatile s (Message.SyncGive k v item adds) = given-small volatile (on_sync_give facts (record { key = k; version = v; item = item; adds = adds }))
+message-small cluster me facts volatile s (Message.Mark centre era upto) = done-small volatile volatile (same volatile)
+message-small cluster me facts volatile s (Message.Finished t) = done-small volatile (closed volatile t) (closed-few volatile t)
 message-small cluster me facts volatile s (Message.ClientRead n k) = done-small volatile volatile (same volatile)
 message-small cluster me facts volatile s (Message.ClientBegin n ps) = done-small volatile volatile (same volatile)
 message-small cluster me facts volatile s (Message.ClientAnswer n x) = done-small volatile volatile (same volatile)

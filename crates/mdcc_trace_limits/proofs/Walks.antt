@@ -23,7 +23,7 @@ use Rattle.mdcc_simulation.specs.Deliveries.{deliver_line, after_message, after_
 use Rattle.mdcc_simulation.specs.Events.{after_event, happened_of}
 use Rattle.mdcc_simulation.specs.AppliedSteps.{fact_happened, input_happened, step_at, step_happened_by, step_stopped}
 use Rattle.mdcc_simulation.specs.Checkpoints.{is_frame_kept, striking_at}
-use Rattle.mdcc_simulation.specs.Centres.{restart_happened, after_restart, tick_line, after_tick}
+use Rattle.mdcc_simulation.specs.Centres.{after_restart, after_sweep, after_tick, restart_happened, sweep_line, tick_line}
 use Rattle.mdcc_simulation.specs.Runs.{run_from, run_of}
 use Rattle.mdcc_language.specs.declared.events.Event.{Event}
 use Rattle.mdcc_messages.specs.declared.facts.Fact.{Fact}
@@ -119,6 +119,7 @@ input-events w a (Ok step) = by_fact step.fact
 one-step : (input : Input) → ticks_in input + others_in input ≡ 1
 one-step (Input.Message envelope) = refl
 one-step Input.Tick = refl
+one-step Input.Sweep = refl
 one-step (Input.Read key) = refl
 one-step (Input.Begin parts) = refl
 
@@ -294,6 +295,7 @@ module _ (cluster : Cluster) (P : ℕ → ℕ → World → Type 0) (walk : IsWa
       settled-end (settled_of (most_events - w.events) listed (record { world = w; lines = Line.Settle listed ∷ [] }) 0)
       (settled (most_events - w.events) listed (record { world = w; lines = Line.Settle listed ∷ [] }) 0 (left-few most_events w.events c.few) h (loosen w c))
   happened-reached w (Event.Tick a) h c = up-reached w a (after_tick w a) (λ up. lines-reached (tick_line a) (input_applied w a Input.Tick) (taken w a Input.Tick h up tt tt c))
+  happened-reached w (Event.Sweep a) h c = up-reached w a (after_sweep w a) (λ up. lines-reached (sweep_line a) (input_applied w a Input.Sweep) (taken w a Input.Sweep h up tt tt c))
   happened-reached w (Event.Crash a) h c = up-reached w a _ (λ up. same-reached w (with_centre w a (down (centre_at w a).tail)) c refl (λ t d. walk.crash t d w a (centre_at w a).tail h (is-up IsSound cluster w a h up).centre))
   happened-reached w (Event.Restart a) h c =
       elim (cases_Bool (is_up_at w a)) [
@@ -308,6 +310,7 @@ module _ (cluster : Cluster) (P : ℕ → ℕ → World → Type 0) (walk : IsWa
   event-reached w (Event.Begin a words) h c = within-reached w _ (λ free. happened-reached (counted_event w) (Event.Begin a words) (event-holds IsSound cluster w h) (counted w c free))
   event-reached w (Event.Settle listed) h c = within-reached w _ (λ free. happened-reached (counted_event w) (Event.Settle listed) (event-holds IsSound cluster w h) (counted w c free))
   event-reached w (Event.Tick a) h c = within-reached w _ (λ free. happened-reached (counted_event w) (Event.Tick a) (event-holds IsSound cluster w h) (counted w c free))
+  event-reached w (Event.Sweep a) h c = within-reached w _ (λ free. happened-reached (counted_event w) (Event.Sweep a) (event-holds IsSound cluster w h) (counted w c free))
   event-reached w (Event.Crash a) h c = within-reached w _ (λ free. happened-reached (counted_event w) (Event.Crash a) (event-holds IsSound cluster w h) (counted w c free))
   event-reached w (Event.Restart a) h c = within-reached w _ (λ free. happened-reached (counted_event w) (Event.Restart a) (event-holds IsSound cluster w h) (counted w c free))
   event-reached w (Event.Stop a call image) h c = within-reached w _ (λ free. happened-reached (counted_event w) (Event.Stop a call image) (event-holds IsSound cluster w h) (counted w c free))

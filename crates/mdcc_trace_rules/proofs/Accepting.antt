@@ -1,9 +1,9 @@
 -- The answer to an Accept is good.
-use Rattle.std.proofs.Common.{Bool, List, None, Option, Some, [], ap, arith, false, inl, inr, length, not, refl, subst, sym, true, ℕ, ◌&&◌, ◌==◌, ◌∙◌, ◌∷◌, ◌≡◌}
+use Rattle.std.proofs.Common.{Bool, List, None, Option, Some, [], ap, arith, false, inl, inr, length, not, refl, subst, sym, true, ℕ, ◌&&◌, ◌==◌, ◌∙◌, ◌||◌, ◌∷◌, ◌≡◌, ◌⊎◌}
 use Rattle.std.specs.Prelude.{filter, is_some, nat_lt}
 use Rattle.std.specs.Option.{option_or}
 use Rattle.std.specs.List.{list_all}
-use Rattle.std.proofs.lemmas.Bool.{and_from, and_parts, cases_Bool, eq-eqb, eqb-true, le-leb, lt-ltb, ltb-false, not-true, not_from_false}
+use Rattle.std.proofs.lemmas.Bool.{and_from, and_parts, cases_Bool, eq-eqb, eqb-true, le-leb, lt-ltb, ltb-false, not-true, not_from_false, true≢false}
 use Rattle.mdcc_base.specs.declared.identifiers.Ballot.{Ballot}
 use Rattle.mdcc_base.specs.declared.key.Key.{Key}
 use Rattle.mdcc_base.specs.declared.identifiers.TxId.{TxId}
@@ -15,7 +15,7 @@ use Rattle.mdcc_option.specs.declared.choices.Mark.{Mark}
 use Rattle.mdcc_struct.specs.declared.options.Options.{Options}
 use Rattle.mdcc_struct.specs.Maps.{union, value_of}
 use Rattle.mdcc_messages.specs.declared.facts.Fact.{Fact}
-use Rattle.mdcc_protocol.specs.Facts.{current_of, is_heard, marks_voted, promise_of, votes_of}
+use Rattle.mdcc_protocol.specs.Facts.{current_of, is_finished, is_heard, is_settled, marks_voted, promise_of, votes_of}
 use Rattle.mdcc_protocol.specs.declared.acceptor.AcceptAnswer.{AcceptAnswer}
 use Rattle.mdcc_rules.specs.AcceptorRules.{accept_step, accepted_step, all_votes_sent, votes_sent}
 use Rattle.mdcc_protocol.specs.Acceptor.{answer_to_marks, new_marks, on_accept}
@@ -43,41 +43,97 @@ use Rattle.mdcc_trace_states.specs.Steps.{IsUp}
 
 -- ---- the marks that are new
 
-new-at : (ys xs : Options) (t : TxId) → value_of ys t ≡ None → value_of (filter (λ (e : TxId × Mark). not (is_some (value_of ys e.0))) xs) t ≡ value_of xs t
-new-at ys [] t h = refl
-new-at ys (x ∷ xs) t h =
+pub neither : (x y : Bool) → (x || y) ≡ false → (x ≡ false) × (y ≡ false)
+neither true y h = absurd (cc)
+neither false true h = absurd (cc)
+neither false false h = (refl, refl)
+
+new-at : (fs : List Fact) (ys xs : Options) (t : TxId) → value_of ys t ≡ None → is_finished fs t ≡ false → value_of (filter (λ (e : TxId × Mark). not (is_some (value_of ys e.0) || is_finished fs e.0)) xs) t ≡ value_of xs t
+new-at fs ys [] t h u = refl
+new-at fs ys (x ∷ xs) t h u =
     elim (cases_Bool (tx_eq x.0 t)) [
       | inl e ↦
           let n : value_of ys x.0 ≡ None = subst (λ z. value_of ys z ≡ None) (sym (tx-true x.0 t e)) h in
-          rw n (rw e refl)
-      | inr e ↦ elim (cases_Bool (not (is_some (value_of ys x.0)))) [
-        | inl g ↦ rw g (rw e (new-at ys xs t h))
-        | inr g ↦ rw g (rw e (new-at ys xs t h))
+          let m : is_finished fs x.0 ≡ false = subst (λ z. is_finished fs z ≡ false) (sym (tx-true x.0 t e)) u in
+          let new : not (is_some (value_of ys x.0) || is_finished fs x.0) ≡ true = rw n (rw m refl) in
+          rw new (rw e refl)
+      | inr e ↦ elim (cases_Bool (not (is_some (value_of ys x.0) || is_finished fs x.0))) [
+        | inl g ↦ rw g (rw e (new-at fs ys xs t h u))
+        | inr g ↦ rw g (rw e (new-at fs ys xs t h u))
       ]
     ]
+
+-- a finished transaction has no new mark
+new-none : (fs : List Fact) (ys xs : Options) (t : TxId) → is_finished fs t ≡ true → value_of (filter (λ (e : TxId × Mark). not (is_some (value_of ys e.0) || is_finished fs e.0)) xs) t ≡ None
+new-none fs ys [] t f = refl
+new-none fs ys (x ∷ xs) t f =
+    elim (cases_Bool (tx_eq x.0 t)) [
+      | inl e ↦
+          let m : is_finished fs x.0 ≡ true = subst (λ z. is_finished fs z ≡ true) (sym (tx-true x.0 t e)) f in
+          rw (past (is_some (value_of ys x.0)) (is_finished fs x.0) m) (new-none fs ys xs t f)
+      | inr e ↦ elim (cases_Bool (not (is_some (value_of ys x.0) || is_finished fs x.0))) [
+        | inl g ↦ rw g (rw e (new-none fs ys xs t f))
+        | inr g ↦ rw g (new-none fs ys xs t f)
+      ]
+    ]
+  where
+    past : (p q : Bool) → q ≡ true → not (p || q) ≡ false
+    past true q h = refl
+    past false true h = refl
+    past false false h = absurd (cc)
 
 -- the votes with the new marks
-with-new : (ys xs : Options) (t : TxId) → value_of (union ys (filter (λ (e : TxId × Mark). not (is_some (value_of ys e.0))) xs)) t ≡ option_or (value_of ys t) (value_of xs t)
-with-new ys xs t = value_of-union ys _ t ∙ by_case (value_of ys t) refl
+with-new : (fs : List Fact) (ys xs : Options) (t : TxId) → is_finished fs t ≡ false → value_of (union ys (filter (λ (e : TxId × Mark). not (is_some (value_of ys e.0) || is_finished fs e.0)) xs)) t ≡ option_or (value_of ys t) (value_of xs t)
+with-new fs ys xs t u = value_of-union ys _ t ∙ by_case (value_of ys t) refl
   where
-    by_case : (o : Option Mark) → value_of ys t ≡ o → option_or (value_of ys t) (value_of (filter (λ (e : TxId × Mark). not (is_some (value_of ys e.0))) xs) t) ≡ option_or (value_of ys t) (value_of xs t)
-    by_case None e = ap (λ z. option_or (value_of ys t) z) (new-at ys xs t e)
+    by_case : (o : Option Mark) → value_of ys t ≡ o → option_or (value_of ys t) (value_of (filter (λ (e : TxId × Mark). not (is_some (value_of ys e.0) || is_finished fs e.0)) xs) t) ≡ option_or (value_of ys t) (value_of xs t)
+    by_case None e = ap (λ z. option_or (value_of ys t) z) (new-at fs ys xs t e u)
     by_case (Some y) e = rw e refl
 
--- the votes, with what a structure brings, are a structure
+with-old : (fs : List Fact) (ys xs : Options) (t : TxId) → is_finished fs t ≡ true → value_of (union ys (filter (λ (e : TxId × Mark). not (is_some (value_of ys e.0) || is_finished fs e.0)) xs)) t ≡ value_of ys t
+with-old fs ys xs t f = value_of-union ys _ t ∙ (ap (λ z. option_or (value_of ys t) z) (new-none fs ys xs t f) ∙ by_case (value_of ys t))
+  where
+    by_case : (o : Option Mark) → option_or o None ≡ o
+    by_case None = refl
+    by_case (Some y) = refl
+
+-- the vote, with what a structure brings, is the mark of a structure, or there is none and the transaction is finished
+abbrev IsAt : List Fact → Key → ℕ → Ballot → Options → Options → TxId → Type 0
+IsAt fs k v b xs s t = (value_of (union (votes_of fs k v b) (new_marks fs k v b xs)) t ≡ value_of s t)
+    ⊎ ((value_of (union (votes_of fs k v b) (new_marks fs k v b xs)) t ≡ None) × (is_finished fs t ≡ true))
+
+-- the votes, with what a structure brings, are a structure, but for what is finished
 sent-with : (cluster : Cluster) (es : List Entry) (a : ℕ) (k : Key) (v : ℕ) (b : Ballot) (xs : Options) → IsAllowed cluster es → is_fast b ≡ false → is_valued es k v b xs ≡ true →
-    IsSent es k v b (union (votes_of (facts_of es a) k v b) (new_marks (facts_of es a) k v b xs))
+    IsSent es (facts_of es a) k v b (union (votes_of (facts_of es a) k v b) (new_marks (facts_of es a) k v b xs))
 sent-with cluster es a k v b xs legal classic was =
     elim (backed cluster es a k v b legal classic) [
-      | inl n ↦ record { structure = xs; was = was; same = λ t. with-new ys xs t ∙ rw (n t) refl }
+      | inl n ↦ record { structure = xs; was = was; same = each xs (λ t y g. let bad : None ≡ Some y = sym (n t) ∙ g in absurd (cc)) (λ t u. rw (n t) refl) }
       | inr s ↦ elim (chain cluster es k v b xs s.structure legal was s.was) [
-        | inl x ↦ record { structure = s.structure; was = s.was; same = λ t. with-new ys xs t ∙ (rw (s.same t) (right t s.structure x (value_of s.structure t) refl)) }
-        | inr x ↦ record { structure = xs; was = was; same = λ t. with-new ys xs t ∙ (rw (s.same t) (left t s.structure x (value_of s.structure t) refl)) }
+        | inl x ↦ record { structure = s.structure; was = s.was; same = each s.structure (λ t y g. sym (mine t s.structure y (s.same t) g) ∙ g) (λ t u. let q = left_open t s.structure u (s.same t) in (rw q (right t s.structure x (value_of s.structure t) refl))) }
+        | inr x ↦ record { structure = xs; was = was; same = each xs (λ t y g. x t y (sym (mine t s.structure y (s.same t) g) ∙ g)) (λ t u. let q = left_open t s.structure u (s.same t) in (rw q (left t s.structure x (value_of s.structure t) refl))) }
       ]
     ]
   where
-    ys : Options
-    ys = votes_of (facts_of es a) k v b
+    -- a vote that stands is the structure's; and so is none, where the transaction is not finished
+    mine : (t : TxId) (s : Options) (y : Mark) → (value_of (votes_of (facts_of es a) k v b) t ≡ value_of s t) ⊎ ((value_of (votes_of (facts_of es a) k v b) t ≡ None) × (is_finished (facts_of es a) t ≡ true)) → value_of (votes_of (facts_of es a) k v b) t ≡ Some y → value_of (votes_of (facts_of es a) k v b) t ≡ value_of s t
+    mine t s y (inl q) g = q
+    mine t s y (inr n) g = let bad : None ≡ Some y = sym n.0 ∙ g in absurd (cc)
+
+    left_open : (t : TxId) (s : Options) → is_finished (facts_of es a) t ≡ false → (value_of (votes_of (facts_of es a) k v b) t ≡ value_of s t) ⊎ ((value_of (votes_of (facts_of es a) k v b) t ≡ None) × (is_finished (facts_of es a) t ≡ true)) → value_of (votes_of (facts_of es a) k v b) t ≡ value_of s t
+    left_open t s u (inl q) = q
+    left_open t s u (inr n) = absurd (true≢false (sym n.1 ∙ u))
+
+    each : (s : Options) → ((t : TxId) (y : Mark) → value_of (votes_of (facts_of es a) k v b) t ≡ Some y → value_of s t ≡ Some y) →
+        ((t : TxId) → is_finished (facts_of es a) t ≡ false → option_or (value_of (votes_of (facts_of es a) k v b) t) (value_of xs t) ≡ value_of s t) → (t : TxId) → IsAt (facts_of es a) k v b xs s t
+    each s old new t =
+        elim (cases_Bool (is_finished (facts_of es a) t)) [
+          | inl f ↦ finished f (value_of (votes_of (facts_of es a) k v b) t) refl
+          | inr f ↦ inl (with-new (facts_of es a) (votes_of (facts_of es a) k v b) xs t f ∙ new t f)
+        ]
+      where
+        finished : is_finished (facts_of es a) t ≡ true → (o : Option Mark) → value_of (votes_of (facts_of es a) k v b) t ≡ o → IsAt (facts_of es a) k v b xs s t
+        finished f None e = inr (with-old (facts_of es a) (votes_of (facts_of es a) k v b) xs t f ∙ e, f)
+        finished f (Some y) e = inl (with-old (facts_of es a) (votes_of (facts_of es a) k v b) xs t f ∙ (e ∙ sym (old t y e)))
 
     left : (t : TxId) (s : Options) → Extends s xs → (o : Option Mark) → value_of s t ≡ o → option_or (value_of s t) (value_of xs t) ≡ value_of xs t
     left t s x None e = rw e refl
@@ -97,12 +153,15 @@ pub same-mark : (cluster : Cluster) (es : List Entry) (a : ℕ) (k : Key) (v : �
 same-mark cluster es a k v b xs t x y legal classic was h g =
     elim (backed cluster es a k v b legal classic) [
       | inl n ↦ let bad : None ≡ Some y = sym (n t) ∙ g in absurd (cc)
-      | inr s ↦
-          let i : value_of s.structure t ≡ Some y = sym (s.same t) ∙ g in
-          elim (chain cluster es k v b xs s.structure legal was s.was) [
-            | inl e ↦ let r : Some y ≡ Some x = sym i ∙ e t x h in cc
-            | inr e ↦ let r : Some y ≡ Some x = sym (e t y i) ∙ h in cc
-          ]
+      | inr s ↦ elim (s.same t) [
+        | inl q ↦
+            let i : value_of s.structure t ≡ Some y = sym q ∙ g in
+            elim (chain cluster es k v b xs s.structure legal was s.was) [
+              | inl e ↦ let r : Some y ≡ Some x = sym i ∙ e t x h in cc
+              | inr e ↦ let r : Some y ≡ Some x = sym (e t y i) ∙ h in cc
+            ]
+        | inr n ↦ let bad : None ≡ Some y = sym n.0 ∙ g in absurd (cc)
+      ]
     ]
 
 filter-twice : {A : Type 0} (p : A → Bool) (xs : List A) → filter p (filter p xs) ≡ filter p xs
@@ -134,26 +193,26 @@ module _ (also : List Entry → Type 0) (shut : IsClosed also) (cluster : Cluste
   GoodAccepted answer = IsGoodBy cluster also es a (accepted_step a (facts_of es a) volatile l k v b xs answer) (accepted_step a (facts_of es a) volatile l k v b xs answer).fact
 
   -- a vote that a message says is given, in a ledger where it is
-  each-sent : (ledger : List Entry) (os : Options) → ((e : TxId × Mark) → In e os → mark_given ledger k v b e.0 a ≡ Some e.1) → Each (TrueWhenSent cluster ledger) (all_votes_sent a (facts_of es a) k v b os)
+  each-sent : (ledger : List Entry) (os : Options) → ((e : TxId × Mark) → In e os → is_settled (facts_of es a) e.0 ≡ false → mark_given ledger k v b e.0 a ≡ Some e.1) → Each (TrueWhenSent cluster ledger) (all_votes_sent a (facts_of es a) k v b os)
   each-sent ledger os h =
-      Each-flat_map (TrueWhenSent cluster ledger) (votes_sent a k v b) (filter (λ (e : TxId × Mark). not (is_heard (facts_of es a) e.0)) os)
-      (λ e i. stands-each cluster ledger a (Message.Voted k v b e.0 e.1) _ up.centre (h e (In-filter (λ (e : TxId × Mark). not (is_heard (facts_of es a) e.0)) os e i).0))
+      Each-flat_map (TrueWhenSent cluster ledger) (votes_sent a k v b) (filter (λ (e : TxId × Mark). not (is_settled (facts_of es a) e.0)) os)
+      (λ e i. stands-each cluster ledger a (Message.Voted k v b e.0 e.1) _ up.centre (let r = In-filter (λ (e : TxId × Mark). not (is_settled (facts_of es a) e.0)) os e i in h e r.0 (not-true _ r.1)))
 
-  new-in : (e : TxId × Mark) → In e (new_marks (facts_of es a) k v b xs) → In e xs × (value_of (votes_of (facts_of es a) k v b) e.0 ≡ None)
-  new-in e i = let r = In-filter (λ (e : TxId × Mark). not (is_some (value_of (votes_of (facts_of es a) k v b) e.0))) xs e i in (r.0, is_some-none _ (not-true _ r.1))
+  new-in : (e : TxId × Mark) → In e (new_marks (facts_of es a) k v b xs) → In e xs × (value_of (votes_of (facts_of es a) k v b) e.0 ≡ None) × (is_finished (facts_of es a) e.0 ≡ false)
+  new-in e i = let r = In-filter (λ (e : TxId × Mark). not (is_some (value_of (votes_of (facts_of es a) k v b) e.0) || is_finished (facts_of es a) e.0)) xs e i in let n = neither (is_some (value_of (votes_of (facts_of es a) k v b) e.0)) (is_finished (facts_of es a) e.0) (not-true _ r.1) in (r.0, is_some-none _ n.0, n.1)
 
   vote-legal : ballot_lt b (promise_of (facts_of es a) k v) ≡ false → nat_lt (current_of (facts_of es a) k) v ≡ false → nat_lt 0 (length (new_marks (facts_of es a) k v b xs)) ≡ true → IsAllowed cluster (Added a fact ∷ es)
   vote-legal above within some =
       (up.legal, (up.centre, may-add cluster (facts_of es a) fact (and_from _ _ (and_from _ _ (and_from _ _ (and_from _ _ ballot-in (all-filter _ (λ (e : TxId × Mark). tx_belongs cluster e.0 && mark_belongs cluster e.1) xs options-in)) refl) (lt-ltb 0 _ up.booted)) kind-of), sent))
     where
       twice : new_marks (facts_of es a) k v b (new_marks (facts_of es a) k v b xs) ≡ new_marks (facts_of es a) k v b xs
-      twice = filter-twice (λ (e : TxId × Mark). not (is_some (value_of (votes_of (facts_of es a) k v b) e.0))) xs
+      twice = filter-twice (λ (e : TxId × Mark). not (is_some (value_of (votes_of (facts_of es a) k v b) e.0) || is_finished (facts_of es a) e.0)) xs
 
       kind-of : is_allowed_kind cluster (facts_of es a) fact ≡ true
       kind-of =
           rw classic
           (and_from _ _ (and_from _ _ (and_from _ _ (and_from _ _ (and_from _ _ (not_from_false (ballot_lt b (promise_of (facts_of es a) k v)) above) (le-leb v _ (ltb-false _ _ within))) some)
-          (once-apart (new_marks (facts_of es a) k v b xs) (once-filter (λ (e : TxId × Mark). not (is_some (value_of (votes_of (facts_of es a) k v b) e.0))) xs once)))
+          (once-apart (new_marks (facts_of es a) k v b xs) (once-filter (λ (e : TxId × Mark). not (is_some (value_of (votes_of (facts_of es a) k v b) e.0) || is_finished (facts_of es a) e.0)) xs once)))
           (eq-eqb _ _ (ap (λ (z : Options). length z) twice))) refl)
 
       sent : IsBacked cluster es a fact
@@ -168,7 +227,7 @@ module _ (also : List Entry → Type 0) (shut : IsClosed also) (cluster : Cluste
           legal = legal;
           placed = ArePlaced-fact cluster a fact es legal up.placed placed;
           more = voted legal;
-          stand = each-sent (Added a fact ∷ es) (new_marks (facts_of es a) k v b xs) given;
+          stand = each-sent (Added a fact ∷ es) (new_marks (facts_of es a) k v b xs) (λ e i u. given e i);
           keeps = Keeps-more cluster (Added a fact) es a volatile legal (quiet-fact a a fact es refl) up.keeps;
         },
       )
@@ -202,17 +261,17 @@ module _ (also : List Entry → Type 0) (shut : IsClosed also) (cluster : Cluste
       given e i =
           let r = new-in e i in
           let test : (v == v && ballot_eq b b && key_eq k k) ≡ true = and_from _ _ (and_from _ _ (eq-eqb v v refl) ((Decides-ballot b b).1 refl)) ((Decides-key k k).1 refl) in
-          rw (eq-eqb a a refl) (rw test (with-new (votes_of (facts_of es a) k v b) xs e.0 ∙ (rw r.1 (once-at xs e once r.0))))
+          rw (eq-eqb a a refl) (rw test (with-new (facts_of es a) (votes_of (facts_of es a) k v b) xs e.0 r.2 ∙ (rw r.1 (once-at xs e once r.0))))
 
   older-good : new_marks (facts_of es a) k v b xs ≡ [] → GoodAccepted AcceptAnswer.Older
   older-good none = sends-good also cluster es a volatile volatile (all_votes_sent a (facts_of es a) k v b xs) up up.keeps (each-sent es xs given)
     where
-      given : (e : TxId × Mark) → In e xs → mark_given es k v b e.0 a ≡ Some e.1
-      given e i = by_case (value_of (votes_of (facts_of es a) k v b) e.0) refl
+      given : (e : TxId × Mark) → In e xs → is_settled (facts_of es a) e.0 ≡ false → mark_given es k v b e.0 a ≡ Some e.1
+      given e i u = by_case (value_of (votes_of (facts_of es a) k v b) e.0) refl
         where
           by_case : (o : Option Mark) → value_of (votes_of (facts_of es a) k v b) e.0 ≡ o → value_of (votes_of (facts_of es a) k v b) e.0 ≡ Some e.1
           by_case (Some y) g = g ∙ ap Some (same-mark cluster es a k v b xs e.0 e.1 y up.legal classic was (once-at xs e once i) g)
-          by_case None g = let h : value_of (new_marks (facts_of es a) k v b xs) e.0 ≡ Some e.1 = new-at (votes_of (facts_of es a) k v b) xs e.0 g ∙ once-at xs e once i in
+          by_case None g = let h : value_of (new_marks (facts_of es a) k v b xs) e.0 ≡ Some e.1 = new-at (facts_of es a) (votes_of (facts_of es a) k v b) xs e.0 g (neither (is_heard (facts_of es a) e.0) (is_finished (facts_of es a) e.0) u).1 ∙ once-at xs e once i in
               let bad : None ≡ Some e.1 = ap (λ (z : Options). value_of z e.0) (sym none) ∙ h in absurd (cc)
 
   pub accept-good : IsGoodBy cluster also es a (accept_step a (facts_of es a) volatile l k v b xs) (accept_step a (facts_of es a) volatile l k v b xs).fact

@@ -31,7 +31,7 @@ use Rattle.mdcc_trace_states.specs.MessageMeaning.{Says, TrueWhenSent}
 use Rattle.mdcc_trace_states.proofs.Lists.{Each-append, Each-like, IsTail-same}
 use Rattle.mdcc_trace_states.proofs.Maps.{tx-refl}
 use Rattle.mdcc_trace_states.proofs.Ledgers.{In-any}
-use Rattle.mdcc_trace_states.proofs.Kept.{ArePlaced-begun, AreVotes-more, IsOpened-more}
+use Rattle.mdcc_trace_states.proofs.Kept.{ArePlaced-begun, AreVotes-more, IsOpened-more, told-more}
 use Rattle.mdcc_trace_states.proofs.Led.{Leads-more}
 use Rattle.mdcc_trace_states.proofs.Sorting.{choices_of-some, choices_of-tx, part_in-choices}
 use Rattle.mdcc_trace_rules.specs.Closed.{IsClosed}
@@ -72,6 +72,7 @@ begun-good also closed cluster es a volatile ps up draft held = record {
     manager = manager;
     recovery = AreVotes-more cluster (Entry.Begun a tx choices) es volatile.recovery.votes up.keeps.recovery;
     leader = Leads-more cluster (Entry.Begun a tx choices) es a volatile.leader legal (record { epoch = refl; valued = λ k v m g. refl }) up.keeps.leader;
+    told = told-more cluster (Entry.Begun a tx choices) es volatile.told up.keeps.told;
   };
 }
   where

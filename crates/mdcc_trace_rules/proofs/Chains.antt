@@ -1,8 +1,8 @@
 -- The structures of one ballot are a chain; a centre's votes at a classic ballot are one of them.
-use Rattle.std.proofs.Common.{Bool, List, None, Option, Some, [], ap, false, inl, inr, length, not, refl, subst, sym, true, ℕ, ◌&&◌, ◌==◌, ◌∙◌, ◌∷◌, ◌≡◌, ◌⊎◌}
-use Rattle.std.specs.Prelude.{filter, filter_map, find, fold, is_some, nat_le, option_map, ⊤}
+use Rattle.std.proofs.Common.{Bool, List, None, Option, Some, [], ap, arith, false, inl, inr, length, not, refl, subst, sym, true, ℕ, ◌&&◌, ◌==◌, ◌∙◌, ◌∷◌, ◌≡◌, ◌⊎◌}
+use Rattle.std.specs.Prelude.{filter, filter_map, find, fold, is_some, nat_le, nat_lt, option_map, ⊤}
 use Rattle.std.specs.List.{cons_option}
-use Rattle.std.proofs.lemmas.Bool.{MatchBool-at_false, and_from, and_parts, cases_Bool, eqb-true, or_cases, or_left, or_right, true≢false}
+use Rattle.std.proofs.lemmas.Bool.{MatchBool-at_false, and_from, and_parts, cases_Bool, eqb-true, le-leb, leb-true, or_cases, or_left, or_right, true≢false}
 use Rattle.mdcc_base.specs.declared.identifiers.Ballot.{Ballot}
 use Rattle.mdcc_base.specs.declared.key.Key.{Key}
 use Rattle.mdcc_base.specs.Sizes.{Sizes}
@@ -20,11 +20,11 @@ use Rattle.mdcc_struct.specs.declared.report.Report.{Report}
 use Rattle.mdcc_struct.specs.Forced.{ballot_reported, forced_of, marks_reported, reports_with}
 use Rattle.mdcc_protocol.specs.Marks.{options_eq}
 use Rattle.mdcc_messages.specs.declared.facts.Fact.{Fact}
-use Rattle.mdcc_protocol.specs.Facts.{votes_of}
+use Rattle.mdcc_protocol.specs.Facts.{floor_of, is_finished, is_settled, votes_of}
 use Rattle.mdcc_protocol.specs.Structures.{all_claims, first_structure, is_left_out, mark_of_choice, with_claim}
 use Rattle.mdcc_ledger.specs.Ledger.{Added, Entry, Valued, facts_of, structure_valued}
 use Rattle.mdcc_ledger.specs.AllowedLedgers.{IsAllowed, IsSent, is_valued, is_valued_as}
-use Rattle.mdcc_ledger.specs.AllowedStructures.{IsMade, reports_at}
+use Rattle.mdcc_ledger.specs.AllowedStructures.{IsMade}
 use Rattle.mdcc_ledger.specs.AllowedFacts.{are_apart}
 use Rattle.mdcc_trace_rules.specs.Laws.{Extends}
 use Rattle.mdcc_trace_states.specs.Words.{In, IsTail}
@@ -132,7 +132,7 @@ pub once-claim : (cluster : Cluster) (facts : List Fact) (k : Key) (v : ℕ) (os
 once-claim cluster facts k v os e h =
     elim (cases_Bool (is_some (value_of os e.0))) [
       | inl g ↦ rw g h
-      | inr g ↦ rw g (elim (cases_Bool (is_left_out os (mark_of_choice cluster facts k v os e.1))) [ inl f ↦ rw f h | inr f ↦ rw f (once-inserted os (e.0, mark_of_choice cluster facts k v os e.1) (is_some-none _ g) h) ])
+      | inr g ↦ rw g (elim (cases_Bool (is_settled facts e.0)) [ inl n ↦ rw n h | inr n ↦ rw n (elim (cases_Bool (is_left_out os (mark_of_choice cluster facts k v os e.1))) [ inl f ↦ rw f h | inr f ↦ rw f (once-inserted os (e.0, mark_of_choice cluster facts k v os e.1) (is_some-none _ g) h) ]) ])
     ]
 
 once-claims : (cluster : Cluster) (facts : List Fact) (k : Key) (v : ℕ) (cs : List (TxId × Option Choice)) (os : Options) → HasOnce os → HasOnce (fold (with_claim cluster facts k v) os cs)
@@ -165,7 +165,7 @@ pub extends-claim : (cluster : Cluster) (facts : List Fact) (k : Key) (v : ℕ) 
 extends-claim cluster facts k v os e =
     elim (cases_Bool (is_some (value_of os e.0))) [
       | inl g ↦ rw g (λ t x h. h)
-      | inr g ↦ rw g (elim (cases_Bool (is_left_out os (mark_of_choice cluster facts k v os e.1))) [ inl f ↦ rw f (λ t x h. h) | inr f ↦ rw f (extends-inserted os (e.0, mark_of_choice cluster facts k v os e.1) (is_some-none _ g)) ])
+      | inr g ↦ rw g (elim (cases_Bool (is_settled facts e.0)) [ inl n ↦ rw n (λ t x h. h) | inr n ↦ rw n (elim (cases_Bool (is_left_out os (mark_of_choice cluster facts k v os e.1))) [ inl f ↦ rw f (λ t x h. h) | inr f ↦ rw f (extends-inserted os (e.0, mark_of_choice cluster facts k v os e.1) (is_some-none _ g)) ]) ])
     ]
 
 -- where the newest entry is a structure of the instance and ballot
@@ -250,41 +250,56 @@ valued-tail old [] k v b os tail h = subst (λ z. is_valued z k v b os ≡ true)
 valued-tail old (e ∷ es) k v b os tail h =
     elim tail [ inl s ↦ subst (λ z. is_valued z k v b os ≡ true) s h | inr r ↦ valued-more e es k v b os (valued-tail old es k v b os r h) ]
 
-abbrev pub IsBackedVotes : List Entry → Key → ℕ → Ballot → Options → Type 0
-IsBackedVotes es k v b votes = ((t : TxId) → value_of votes t ≡ None) ⊎ IsSent es k v b votes
+abbrev pub IsBackedVotes : List Entry → List Fact → Key → ℕ → Ballot → Options → Type 0
+IsBackedVotes es fs k v b votes = ((t : TxId) → value_of votes t ≡ None) ⊎ IsSent es fs k v b votes
 
-IsSent-more : (e : Entry) (es : List Entry) (k : Key) (v : ℕ) (b : Ballot) (os : Options) → IsSent es k v b os → IsSent (e ∷ es) k v b os
-IsSent-more e es k v b os h = record { structure = h.structure; was = valued-more e es k v b h.structure h.was; same = h.same }
+-- what is finished stays so
+pub finished-more : (f : Fact) (fs : List Fact) (t : TxId) → is_finished fs t ≡ true → is_finished (f ∷ fs) t ≡ true
+finished-more f fs t h =
+    let p = and_parts (nat_lt 0 t.seq) (nat_le t.seq (floor_of fs t.centre t.epoch)) h in
+    let q = leb-true t.seq (floor_of fs t.centre t.epoch) p.1 in
+    and_from (nat_lt 0 t.seq) _ p.0 (le-leb _ _ (omega (arith, q)))
 
-backed-more : (e : Entry) (es : List Entry) (k : Key) (v : ℕ) (b : Ballot) (os : Options) → IsBackedVotes es k v b os → IsBackedVotes (e ∷ es) k v b os
-backed-more e es k v b os h = elim h [ inl n ↦ inl n | inr s ↦ inr (IsSent-more e es k v b os s) ]
+IsSent-more : (e : Entry) (es : List Entry) (fs : List Fact) (k : Key) (v : ℕ) (b : Ballot) (os : Options) → IsSent es fs k v b os → IsSent (e ∷ es) fs k v b os
+IsSent-more e es fs k v b os h = record { structure = h.structure; was = valued-more e es k v b h.structure h.was; same = h.same }
 
-pub backed : (cluster : Cluster) (es : List Entry) (a : ℕ) (k : Key) (v : ℕ) (b : Ballot) → IsAllowed cluster es → is_fast b ≡ false → IsBackedVotes es k v b (votes_of (facts_of es a) k v b)
+IsSent-facts : (f : Fact) (es : List Entry) (fs : List Fact) (k : Key) (v : ℕ) (b : Ballot) (os : Options) → IsSent es fs k v b os → IsSent es (f ∷ fs) k v b os
+IsSent-facts f es fs k v b os h = record { structure = h.structure; was = h.was; same = λ t. elim (h.same t) [ inl s ↦ inl s | inr n ↦ inr (n.0, finished-more f fs t n.1) ] }
+
+backed-more : (e : Entry) (es : List Entry) (fs : List Fact) (k : Key) (v : ℕ) (b : Ballot) (os : Options) → IsBackedVotes es fs k v b os → IsBackedVotes (e ∷ es) fs k v b os
+backed-more e es fs k v b os h = elim h [ inl n ↦ inl n | inr s ↦ inr (IsSent-more e es fs k v b os s) ]
+
+backed-facts : (f : Fact) (es : List Entry) (fs : List Fact) (k : Key) (v : ℕ) (b : Ballot) (os : Options) → IsBackedVotes es fs k v b os → IsBackedVotes es (f ∷ fs) k v b os
+backed-facts f es fs k v b os h = elim h [ inl n ↦ inl n | inr s ↦ inr (IsSent-facts f es fs k v b os s) ]
+
+pub backed : (cluster : Cluster) (es : List Entry) (a : ℕ) (k : Key) (v : ℕ) (b : Ballot) → IsAllowed cluster es → is_fast b ≡ false → IsBackedVotes es (facts_of es a) k v b (votes_of (facts_of es a) k v b)
 backed cluster [] a k v b legal classic = inl (λ t. refl)
-backed cluster (Entry.Begun c t cs ∷ es) a k v b legal classic = backed-more (Entry.Begun c t cs) es k v b _ (backed cluster es a k v b legal.0 classic)
-backed cluster (Valued c j w m os ∷ es) a k v b legal classic = backed-more (Valued c j w m os) es k v b _ (backed cluster es a k v b legal.0 classic)
+backed cluster (Entry.Begun c t cs ∷ es) a k v b legal classic = backed-more (Entry.Begun c t cs) es (facts_of es a) k v b _ (backed cluster es a k v b legal.0 classic)
+backed cluster (Valued c j w m os ∷ es) a k v b legal classic = backed-more (Valued c j w m os) es (facts_of es a) k v b _ (backed cluster es a k v b legal.0 classic)
 backed cluster (Added c f ∷ es) a k v b legal classic =
     elim (cases_Bool (c == a)) [
-      | inl e ↦ rw e (by-fact f legal (eqb-true c a e) (backed-more (Added c f) es k v b _ (backed cluster es a k v b legal.0 classic)))
-      | inr e ↦ rw e (backed-more (Added c f) es k v b _ (backed cluster es a k v b legal.0 classic))
+      | inl e ↦ rw e (by-fact f legal (eqb-true c a e) (backed-more (Added c f) es (facts_of es a) k v b _ (backed cluster es a k v b legal.0 classic)))
+      | inr e ↦ rw e (backed-more (Added c f) es (facts_of es a) k v b _ (backed cluster es a k v b legal.0 classic))
     ]
   where
-    by-fact : (f : Fact) → IsAllowed cluster (Added c f ∷ es) → c ≡ a → IsBackedVotes (Added c f ∷ es) k v b (votes_of (facts_of es a) k v b) → IsBackedVotes (Added c f ∷ es) k v b (votes_of (f ∷ facts_of es a) k v b)
-    by-fact (Fact.Booted n) legal s h = h
-    by-fact (Fact.Promised j lo hi m) legal s h = h
-    by-fact (Fact.Heard u o) legal s h = h
-    by-fact (Fact.Adopted j w it ds) legal s h = h
+    by-fact : (f : Fact) → IsAllowed cluster (Added c f ∷ es) → c ≡ a → IsBackedVotes (Added c f ∷ es) (facts_of es a) k v b (votes_of (facts_of es a) k v b) → IsBackedVotes (Added c f ∷ es) (f ∷ facts_of es a) k v b (votes_of (f ∷ facts_of es a) k v b)
+    by-fact (Fact.Booted n) legal s h = backed-facts (Fact.Booted n) _ _ k v b _ h
+    by-fact (Fact.Promised j lo hi m) legal s h = backed-facts (Fact.Promised j lo hi m) _ _ k v b _ h
+    by-fact (Fact.Floor centre era upto) legal s h = backed-facts (Fact.Floor centre era upto) _ _ k v b _ h
+    by-fact (Fact.Heard u o) legal s h = backed-facts (Fact.Heard u o) _ _ k v b _ h
+    by-fact (Fact.Adopted j w it ds) legal s h = backed-facts (Fact.Adopted j w it ds) _ _ k v b _ h
     by-fact (Fact.Voted j w m os off) legal s h =
         elim (cases_Bool (w == v && ballot_eq m b && key_eq j k)) [
           | inl e ↦ rw e (let p = is-here k v b j w m e in
               let n : is_fast m ≡ false = subst (λ z. is_fast z ≡ false) (sym p.ballot) classic in
-              let x : IsSent es j w m (union (votes_of (facts_of es c) j w m) os) = MatchBool-at_false _ _ n legal.1.2 in
-              inr (IsSent-more (Added c (Fact.Voted j w m os off)) es k v b (union (votes_of (facts_of es a) k v b) os)
-              (subst (λ z. IsSent es k v b (union (votes_of (facts_of es z) k v b) os)) s
-              (subst (λ z. IsSent es k v z (union (votes_of (facts_of es c) k v z) os)) p.ballot
-              (subst (λ z. IsSent es k z m (union (votes_of (facts_of es c) k z m) os)) p.version
-              (subst (λ z. IsSent es z w m (union (votes_of (facts_of es c) z w m) os)) p.key x))))))
-          | inr e ↦ rw e h
+              let x : IsSent es (facts_of es c) j w m (union (votes_of (facts_of es c) j w m) os) = MatchBool-at_false _ _ n legal.1.2 in
+              inr (IsSent-more (Added c (Fact.Voted j w m os off)) es (Fact.Voted j w m os off ∷ facts_of es a) k v b (union (votes_of (facts_of es a) k v b) os)
+              (IsSent-facts (Fact.Voted j w m os off) es (facts_of es a) k v b (union (votes_of (facts_of es a) k v b) os)
+              (subst (λ z. IsSent es (facts_of es z) k v b (union (votes_of (facts_of es z) k v b) os)) s
+              (subst (λ z. IsSent es (facts_of es c) k v z (union (votes_of (facts_of es c) k v z) os)) p.ballot
+              (subst (λ z. IsSent es (facts_of es c) k z m (union (votes_of (facts_of es c) k z m) os)) p.version
+              (subst (λ z. IsSent es (facts_of es c) z w m (union (votes_of (facts_of es c) z w m) os)) p.key x)))))))
+          | inr e ↦ rw e (backed-facts (Fact.Voted j w m os off) _ _ k v b _ h)
         ]
 
 pub last-valued : (fs : List Entry) (j : Key) (w : ℕ) (m : Ballot) (last : Options) → structure_valued fs j w m ≡ Some last → is_valued fs j w m last ≡ true
@@ -311,5 +326,5 @@ structure-once cluster (Valued c j w m xs ∷ es) k v b os legal h =
     ]
   where
     made : IsMade cluster es c j w m xs → ((last : Options) → is_valued es j w m last ≡ true → HasOnce last) → HasOnce xs
-    made (inl first) rest = subst HasOnce (sym first.2.made) (once-first cluster (facts_of es c) j w first.1 (reports_at es j w m first.0))
+    made (inl first) rest = subst HasOnce (sym first.2.made) (once-first cluster (facts_of es c) j w first.1 first.0)
     made (inr next) rest = subst HasOnce (sym next.2.made) (once-claim cluster (facts_of es c) j w next.0 next.1 (rest next.0 (last-valued es j w m next.0 next.2.last_before)))

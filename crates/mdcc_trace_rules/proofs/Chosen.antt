@@ -119,6 +119,7 @@ ballots-more : (e : Entry) (es : List Entry) (k : Key) (v : ℕ) (b : Ballot) �
 ballots-more (Entry.Begun c u cs) es k v b i = i
 ballots-more (Valued c j w m os) es k v b i = i
 ballots-more (Added c (Fact.Booted n)) es k v b i = i
+ballots-more (Added c (Fact.Floor centre era upto)) es k v b i = i
 ballots-more (Added c (Fact.Promised j lo hi m)) es k v b i = i
 ballots-more (Added c (Fact.Heard u o)) es k v b i = i
 ballots-more (Added c (Fact.Adopted j w it ds)) es k v b i = i
@@ -127,6 +128,7 @@ ballots-more (Added c (Fact.Voted j w m os off)) es k v b i =
 
 vote-ballot : (c : ℕ) (f : Fact) (es : List Entry) (k : Key) (v : ℕ) (b : Ballot) (t : TxId) (x : Mark) → value_of (marks_voted k v b f) t ≡ Some x → In b (ballots_voted (Added c f ∷ es) k v)
 vote-ballot c (Fact.Booted n) es k v b t x h = absurd (cc)
+vote-ballot c (Fact.Floor centre era upto) es k v b t x h = absurd (cc)
 vote-ballot c (Fact.Promised j lo hi m) es k v b t x h = absurd (cc)
 vote-ballot c (Fact.Heard u o) es k v b t x h = absurd (cc)
 vote-ballot c (Fact.Adopted j w it ds) es k v b t x h = absurd (cc)

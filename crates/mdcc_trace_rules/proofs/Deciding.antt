@@ -43,6 +43,7 @@ closed-keeps cluster es a v t h = record {
   };
   recovery = AreVotes-filter cluster es (λ (u : Vote). not (tx_eq u.tx t)) v.recovery.votes h.recovery;
   leader = h.leader;
+  told = h.told;
 }
 
 -- ---- begun choices

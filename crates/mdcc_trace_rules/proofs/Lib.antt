@@ -4,6 +4,7 @@ pub mod Chains
 pub mod Chosen
 pub mod Deciding
 pub mod Dispatch
+pub mod Floors
 pub mod Limits
 pub mod Order
 pub mod Outcomes

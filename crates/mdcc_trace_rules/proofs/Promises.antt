@@ -1,6 +1,6 @@
 -- Promises are kept: what a centre reports below a ballot that it promised stays as it is. The answer to a Prepare is good.
 use Rattle.std.proofs.Common.{Bool, List, None, Option, Some, [], ap, arith, cond, false, inl, inr, length, max, min, not, refl, subst, sym, true, ℕ, ◌&&◌, ◌++◌, ◌+◌, ◌-◌, ◌==◌, ◌^◌, ◌||◌, ◌∙◌, ◌∷◌, ◌≡◌, ◌≤◌, ◌⊎◌}
-use Rattle.std.specs.Prelude.{fold, is_some, nat_le, nat_lt}
+use Rattle.std.specs.Prelude.{filter, fold, is_some, nat_le, nat_lt}
 use Rattle.std.specs.Option.{option_or}
 use Rattle.std.proofs.lemmas.Bool.{and_from, and_parts, cases_Bool, eq-eqb, eqb-true, le-leb, leb-true, lt-ltb, not-true, not_from_false, or_cases, or_left, or_right, true≢false}
 use Rattle.mdcc_base.specs.declared.identifiers.Ballot.{Ballot}
@@ -8,6 +8,8 @@ use Rattle.mdcc_base.specs.declared.key.Key.{Key}
 use Rattle.mdcc_base.specs.Ballot.{ballot_eq, ballot_lt, ballot_max, fast_ballot, is_fast}
 use Rattle.mdcc_base.specs.Key.{key_eq}
 use Rattle.mdcc_option.specs.declared.choices.Outcome.TheVariants.{Abort, Commit}
+use Rattle.mdcc_base.specs.declared.identifiers.TxId.{TxId}
+use Rattle.mdcc_option.specs.declared.choices.Mark.{Mark}
 use Rattle.mdcc_option.specs.declared.choices.Choice.{Choice}
 use Rattle.mdcc_option.specs.declared.cluster.Cluster.{Cluster}
 use Rattle.mdcc_option.specs.OneCopy.{next_version}
@@ -16,7 +18,8 @@ use Rattle.mdcc_struct.specs.Maps.{union}
 use Rattle.mdcc_struct.specs.declared.report.Report.{Report}
 use Rattle.mdcc_protocol.specs.Marks.{is_write}
 use Rattle.mdcc_messages.specs.declared.facts.Fact.{Fact}
-use Rattle.mdcc_protocol.specs.Facts.{ballot_promised, ballot_voted, current_of, last_ballot, marks_voted, promise_of, promised_through, range_promised, report_of, version_from, version_given, votes_of}
+use Rattle.mdcc_trace_rules.specs.Laws.{last_report}
+use Rattle.mdcc_protocol.specs.Facts.{ballot_promised, ballot_voted, current_of, floor_of, is_forgotten, last_ballot, marks_voted, promise_of, promised_through, range_promised, report_of, shown_of, version_from, version_given, votes_of}
 use Rattle.mdcc_protocol.specs.declared.acceptor.PrepareAnswer.{PrepareAnswer}
 use Rattle.mdcc_protocol.specs.Acceptor.{new_marks, on_prepare, promise_answer, range_end}
 use Rattle.mdcc_rules.specs.AcceptorRules.{prepare_step, prepared_step}
@@ -61,6 +64,7 @@ current-within-at cluster m next (e ∷ es) old legal tail a k =
   where
     fact : (c : ℕ) (f : Fact) → IsAllowed cluster (Added c f ∷ es) → ((o : List Entry) → IsTail o es → (b : ℕ) → current_of (facts_of o b) k ≤ m) → version_from k f ≤ m
     fact c (Fact.Booted n) legal h = omega arith
+    fact c (Fact.Floor centre era upto) legal h = omega arith
     fact c (Fact.Promised j lo hi b) legal h = omega arith
     fact c (Fact.Voted j v b os off) legal h = omega arith
     fact c (Fact.Heard t Abort) legal h = omega arith
@@ -102,6 +106,7 @@ last-below (f ∷ fs) k v m =
   where
     of-fact : (f : Fact) → (ballot_voted k v m f ≡ fast_ballot) ⊎ (ballot_lt (ballot_voted k v m f) m ≡ true)
     of-fact (Fact.Booted n) = inl refl
+    of-fact (Fact.Floor centre era upto) = inl refl
     of-fact (Fact.Promised j lo hi b) = inl refl
     of-fact (Fact.Heard t o) = inl refl
     of-fact (Fact.Adopted j w it ds) = inl refl
@@ -160,7 +165,7 @@ last-fast fs k v m h =
 
 -- one more fact leaves the report below a ballot that was promised
 pub fact-report : (cluster : Cluster) (es : List Entry) (c : ℕ) (f : Fact) (k : Key) (v : ℕ) (m : Ballot) → IsAllowed cluster (Added c f ∷ es) → ballot_lt (promise_of (facts_of es c) k v) m ≡ false →
-    report_of 0 (f ∷ facts_of es c) k v m ≡ report_of 0 (facts_of es c) k v m
+    last_report (f ∷ facts_of es c) k v m ≡ last_report (facts_of es c) k v m
 fact-report cluster es c f k v m legal promised =
     elim (cases_Bool (is_fast m)) [
       | inl e ↦
@@ -169,7 +174,7 @@ fact-report cluster es c f k v m legal promised =
       | inr e ↦ by-fact e f legal
     ]
   where
-    same : (f : Fact) → ballot_voted k v m f ≡ fast_ballot → marks_voted k v (last_ballot (facts_of es c) k v m) f ≡ [] → report_of 0 (f ∷ facts_of es c) k v m ≡ report_of 0 (facts_of es c) k v m
+    same : (f : Fact) → ballot_voted k v m f ≡ fast_ballot → marks_voted k v (last_ballot (facts_of es c) k v m) f ≡ [] → last_report (f ∷ facts_of es c) k v m ≡ last_report (facts_of es c) k v m
     same f e g =
         let l : last_ballot (f ∷ facts_of es c) k v m ≡ last_ballot (facts_of es c) k v m = ap (ballot_max (last_ballot (facts_of es c) k v m)) e ∙ max-fast (last_ballot (facts_of es c) k v m) in
         let w : votes_of (f ∷ facts_of es c) k v (last_ballot (facts_of es c) k v m) ≡ votes_of (facts_of es c) k v (last_ballot (facts_of es c) k v m) = ap (union (votes_of (facts_of es c) k v (last_ballot (facts_of es c) k v m))) g in
@@ -177,8 +182,9 @@ fact-report cluster es c f k v m legal promised =
         ap (λ z. made-report z (cond (is_fast m) [] (votes_of (f ∷ facts_of es c) k v z))) l in
         reports _ _ _ _ (r ∙ ap (λ (z : Options). made-report (last_ballot (facts_of es c) k v m) (cond (is_fast m) [] z)) w)
 
-    by-fact : is_fast m ≡ false → (f : Fact) → IsAllowed cluster (Added c f ∷ es) → report_of 0 (f ∷ facts_of es c) k v m ≡ report_of 0 (facts_of es c) k v m
+    by-fact : is_fast m ≡ false → (f : Fact) → IsAllowed cluster (Added c f ∷ es) → last_report (f ∷ facts_of es c) k v m ≡ last_report (facts_of es c) k v m
     by-fact classic (Fact.Booted n) legal = same (Fact.Booted n) refl refl
+    by-fact classic (Fact.Floor centre era upto) legal = same (Fact.Floor centre era upto) refl refl
     by-fact classic (Fact.Promised j lo hi b) legal = same (Fact.Promised j lo hi b) refl refl
     by-fact classic (Fact.Heard t o) legal = same (Fact.Heard t o) refl refl
     by-fact classic (Fact.Adopted j w it ds) legal = same (Fact.Adopted j w it ds) refl refl
@@ -230,22 +236,45 @@ fact-report cluster es c f k v m legal promised =
             three true false r h = refl
             three false q r h = refl
 
+-- ---- what is shown
+
+filter-same : {A : Type 0} (p q : A → Bool) (xs : List A) → ((x : A) → p x ≡ q x) → filter p xs ≡ filter q xs
+filter-same p q [] h = refl
+filter-same p q (x ∷ xs) h =
+    elim (cases_Bool (q x)) [
+      | inl e ↦ let g : p x ≡ true = h x ∙ e in rw e (rw g (ap (λ z. x ∷ z) (filter-same p q xs h)))
+      | inr e ↦ let g : p x ≡ false = h x ∙ e in rw e (rw g (filter-same p q xs h))
+    ]
+
+promised-floor : (k : Key) (v high : ℕ) (b : Ballot) (fs : List Fact) (c n : ℕ) → floor_of (Fact.Promised k v high b ∷ fs) c n ≡ floor_of fs c n
+promised-floor k v high b fs c n = omega arith
+
+promised-current : (k : Key) (v high : ℕ) (b : Ballot) (fs : List Fact) (j : Key) → current_of (Fact.Promised k v high b ∷ fs) j ≡ current_of fs j
+promised-current k v high b fs j = omega arith
+
+shown-same : (f : Fact) (fs : List Fact) (k : Key) (v : ℕ) (b : Ballot) → ((c n : ℕ) → floor_of (f ∷ fs) c n ≡ floor_of fs c n) → current_of (f ∷ fs) k ≡ current_of fs k → votes_of (f ∷ fs) k v b ≡ votes_of fs k v b →
+    shown_of (f ∷ fs) k v b ≡ shown_of fs k v b
+shown-same f fs k v b floors current votes =
+    filter-same (λ (e : TxId × Mark). not (is_forgotten (f ∷ fs) k v e.0)) (λ (e : TxId × Mark). not (is_forgotten fs k v e.0)) (votes_of (f ∷ fs) k v b)
+    (λ e. ap (λ z. not ((nat_lt 0 e.0.seq && nat_le e.0.seq z) && nat_lt v (current_of (f ∷ fs) k))) (floors e.0.centre e.0.epoch) ∙ ap (λ z. not ((nat_lt 0 e.0.seq && nat_le e.0.seq (floor_of fs e.0.centre e.0.epoch)) && nat_lt v z)) current) ∙
+    ap (λ (z : Options). filter (λ (e : TxId × Mark). not (is_forgotten fs k v e.0)) z) votes
+
 -- ---- promises stay
 
 pub promise-stays : (f : Fact) (fs : List Fact) (k : Key) (v : ℕ) (m : Ballot) → ballot_lt (promise_of fs k v) m ≡ false → ballot_lt (promise_of (f ∷ fs) k v) m ≡ false
 promise-stays f fs k v m h = max-left (promise_of fs k v) (ballot_promised k v f) m h
 
 pub report-kept : (cluster : Cluster) (old es : List Entry) (a : ℕ) (k : Key) (v : ℕ) (m : Ballot) → IsAllowed cluster es → IsTail old es → ballot_lt (promise_of (facts_of old a) k v) m ≡ false →
-    (report_of 0 (facts_of es a) k v m ≡ report_of 0 (facts_of old a) k v m) × (ballot_lt (promise_of (facts_of es a) k v) m ≡ false)
-report-kept cluster old [] a k v m legal tail h = subst (λ z. (report_of 0 (facts_of z a) k v m ≡ report_of 0 (facts_of old a) k v m) × (ballot_lt (promise_of (facts_of z a) k v) m ≡ false)) tail (refl, h)
+    (last_report (facts_of es a) k v m ≡ last_report (facts_of old a) k v m) × (ballot_lt (promise_of (facts_of es a) k v) m ≡ false)
+report-kept cluster old [] a k v m legal tail h = subst (λ z. (last_report (facts_of z a) k v m ≡ last_report (facts_of old a) k v m) × (ballot_lt (promise_of (facts_of z a) k v) m ≡ false)) tail (refl, h)
 report-kept cluster old (e ∷ es) a k v m legal tail h =
     elim tail [
-      | inl s ↦ subst (λ z. (report_of 0 (facts_of z a) k v m ≡ report_of 0 (facts_of old a) k v m) × (ballot_lt (promise_of (facts_of z a) k v) m ≡ false)) s (refl, h)
+      | inl s ↦ subst (λ z. (last_report (facts_of z a) k v m ≡ last_report (facts_of old a) k v m) × (ballot_lt (promise_of (facts_of z a) k v) m ≡ false)) s (refl, h)
       | inr r ↦ next e legal (report-kept cluster old es a k v m legal.0 r h)
     ]
   where
-    next : (e : Entry) → IsAllowed cluster (e ∷ es) → (report_of 0 (facts_of es a) k v m ≡ report_of 0 (facts_of old a) k v m) × (ballot_lt (promise_of (facts_of es a) k v) m ≡ false) →
-        (report_of 0 (facts_of (e ∷ es) a) k v m ≡ report_of 0 (facts_of old a) k v m) × (ballot_lt (promise_of (facts_of (e ∷ es) a) k v) m ≡ false)
+    next : (e : Entry) → IsAllowed cluster (e ∷ es) → (last_report (facts_of es a) k v m ≡ last_report (facts_of old a) k v m) × (ballot_lt (promise_of (facts_of es a) k v) m ≡ false) →
+        (last_report (facts_of (e ∷ es) a) k v m ≡ last_report (facts_of old a) k v m) × (ballot_lt (promise_of (facts_of (e ∷ es) a) k v) m ≡ false)
     next (Entry.Begun c t cs) legal g = g
     next (Valued c j w b os) legal g = g
     next (Added c f) legal g =
@@ -254,7 +283,7 @@ report-kept cluster old (e ∷ es) a k v m legal tail h =
               let s : c ≡ a = eqb-true c a e in
               let p : ballot_lt (promise_of (facts_of es c) k v) m ≡ false = subst (λ z. ballot_lt (promise_of (facts_of es z) k v) m ≡ false) (sym s) g.1 in
               let r = fact-report cluster es c f k v m legal p in
-              let r' : report_of 0 (f ∷ facts_of es a) k v m ≡ report_of 0 (facts_of es a) k v m = subst (λ z. report_of 0 (f ∷ facts_of es z) k v m ≡ report_of 0 (facts_of es z) k v m) s r in
+              let r' : last_report (f ∷ facts_of es a) k v m ≡ last_report (facts_of es a) k v m = subst (λ z. last_report (f ∷ facts_of es z) k v m ≡ last_report (facts_of es z) k v m) s r in
               rw e (r' ∙ g.0, promise-stays f (facts_of es a) k v m g.1)
           | inr e ↦ rw e g
         ]
@@ -266,6 +295,7 @@ through-promise (f ∷ fs) k low high m v h x y = by_case (λ g. through-promise
   where
     new : (f : Fact) → range_promised k low m f ≡ Some high → ballot_lt (ballot_promised k v f) m ≡ false
     new (Fact.Booted n) g = absurd (cc)
+    new (Fact.Floor centre era upto) g = absurd (cc)
     new (Fact.Heard t o) g = absurd (cc)
     new (Fact.Adopted j w it ds) g = absurd (cc)
     new (Fact.Voted j w b os off) g = absurd (cc)
@@ -300,6 +330,7 @@ through-above cluster (Added c f ∷ es) a k low high m legal h =
   where
     new : (f : Fact) → IsAllowed cluster (Added c f ∷ es) → range_promised k low m f ≡ Some high → low ≤ high
     new (Fact.Booted n) l g = absurd (cc)
+    new (Fact.Floor centre era upto) l g = absurd (cc)
     new (Fact.Heard t o) l g = absurd (cc)
     new (Fact.Adopted j w it ds) l g = absurd (cc)
     new (Fact.Voted j w b os off) l g = absurd (cc)
@@ -377,10 +408,14 @@ module _ (also : List Entry → Type 0) (shut : IsClosed also) (cluster : Cluste
 
           same-report : report_of 0 (Fact.Promised k v high b ∷ facts_of es a) k v b ≡ report_of 0 (facts_of es a) k v b
           same-report =
-              ap (λ z. made z) (max-fast (last_ballot (facts_of es a) k v b))
+              ap (λ z. made (Fact.Promised k v high b ∷ facts_of es a) z) (max-fast (last_ballot (facts_of es a) k v b)) ∙
+              ap (λ (z : Options). told (cond (is_fast b) [] z)) (shown-same (Fact.Promised k v high b) (facts_of es a) k v (last_ballot (facts_of es a) k v b) (λ c n. promised-floor k v high b (facts_of es a) c n) (promised-current k v high b (facts_of es a) k) refl)
             where
-              made : Ballot → Report
-              made z = record { centre = 0; ballot = z; votes = cond (is_fast b) [] (votes_of (facts_of es a) k v z) }
+              told : Options → Report
+              told os = record { centre = 0; ballot = last_ballot (facts_of es a) k v b; votes = os }
+
+              made : List Fact → Ballot → Report
+              made fs z = record { centre = 0; ballot = z; votes = cond (is_fast b) [] (shown_of fs k v z) }
 
   pub prepare-good : IsGoodBy cluster also es a (prepare_step a (facts_of es a) volatile l k v w b) (prepare_step a (facts_of es a) volatile l k v w b).fact
   prepare-good =

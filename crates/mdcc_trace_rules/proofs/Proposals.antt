@@ -1,5 +1,5 @@
 -- The answer to a proposal is good.
-use Rattle.std.proofs.Common.{List, None, Option, Some, [], cond, false, inl, inr, refl, subst, sym, true, ℕ, ◌&&◌, ◌==◌, ◌∙◌, ◌∷◌, ◌≡◌, ◌⊎◌}
+use Rattle.std.proofs.Common.{Bool, List, None, Option, Some, [], cond, false, inl, inr, refl, subst, sym, true, ℕ, ◌&&◌, ◌==◌, ◌∙◌, ◌∷◌, ◌≡◌, ◌⊎◌}
 use Rattle.std.specs.Prelude.{length, nat_le, nat_lt}
 use Rattle.std.proofs.lemmas.Bool.{and_from, and_parts, cases_Bool, eq-eqb, eqb-true, le-leb, lt-ltb, ltb-false}
 use Rattle.mdcc_base.specs.declared.identifiers.Ballot.{Ballot}
@@ -18,10 +18,10 @@ use Rattle.mdcc_struct.specs.Maps.{value_of}
 use Rattle.mdcc_protocol.specs.declared.fit.Fit.{Fit}
 use Rattle.mdcc_protocol.specs.declared.fit.Fit.TheVariants.{Breaks, Conflict, Fits}
 use Rattle.mdcc_messages.specs.declared.facts.Fact.{Fact}
-use Rattle.mdcc_protocol.specs.Facts.{base_of, current_of, entries_of, heard_of, live_of, marks_voted, promise_of, vote_of, votes_of}
+use Rattle.mdcc_protocol.specs.Facts.{base_of, current_of, entries_of, heard_of, is_finished, last_vote, live_of, marks_voted, outcome_kept, promise_of, vote_of, votes_of}
 use Rattle.mdcc_protocol.specs.Structures.{accept_room, reject_room}
 use Rattle.mdcc_protocol.specs.declared.acceptor.ProposeAnswer.{ProposeAnswer}
-use Rattle.mdcc_protocol.specs.Acceptor.{answer_after, answer_to_new, fit_of, vote_by_fit, vote_on, vote_to_accept, vote_to_reject}
+use Rattle.mdcc_protocol.specs.Acceptor.{answer_after, answer_by_vote, answer_to_new, fit_of, vote_by_fit, vote_on, vote_to_accept, vote_to_reject}
 use Rattle.mdcc_rules.specs.AcceptorRules.{propose_step, proposed_step}
 use Rattle.mdcc_ledger.specs.Ledger.{Added, Entry, choices_begun, facts_of, mark_given}
 use Rattle.mdcc_ledger.specs.AllowedLedgers.{IsAllowed}
@@ -43,7 +43,7 @@ use Rattle.mdcc_trace_states.proofs.Kept.{ArePlaced-fact, Keeps-more, quiet-fact
 use Rattle.mdcc_trace_states.proofs.Belonging.{facts-belong, promise-belongs}
 use Rattle.mdcc_trace_rules.proofs.Limits.{limit-belongs}
 use Rattle.mdcc_trace_rules.proofs.Begins.{sends-good}
-use Rattle.mdcc_trace_rules.proofs.Votings.{unvoted, vote-given, was-outcome}
+use Rattle.mdcc_trace_rules.proofs.Votings.{kept-heard, unforgotten, unvoted, vote-given, was-outcome}
 use Rattle.mdcc_trace_rules.specs.Closed.{IsClosed}
 use Rattle.mdcc_trace_states.specs.Steps.{IsUp}
 use Rattle.mdcc_rules.specs.Here.{here}
@@ -68,10 +68,12 @@ by-fit cluster facts c (Breaks n) h = elim (to-reject cluster facts c) [ inl e �
 
 vote-on : (cluster : Cluster) (facts : List Fact) (c : Choice) → update_belongs cluster c.update ≡ true → IsVoteOr cluster (vote_on cluster facts c) c
 vote-on cluster facts c of =
-    elim (cases_Bool (nat_lt c.version (current_of facts c.key))) [
-      | inl e ↦ rw e (elim (to-reject cluster facts c) [ inl g ↦ inl g | inr g ↦ inr (inr g) ])
-      | inr e ↦ rw e (by-fit cluster facts c (fit_of cluster facts c) (λ n g. limit-belongs cluster (base_of facts c.key) (load_of (live_of facts c.key c.version) (seen_in c.update)) c.update n of g))
-    ]
+    pick (nat_lt c.version (current_of facts c.key)) _ _ (elim (to-reject cluster facts c) [ inl g ↦ inl g | inr g ↦ inr (inr g) ])
+    (by-fit cluster facts c (fit_of cluster facts c) (λ n g. limit-belongs cluster (base_of facts c.key) (load_of (live_of facts c.key c.version) (seen_in c.update)) c.update n of g))
+  where
+    pick : (test : Bool) (x y : ProposeAnswer) → IsVoteOr cluster x c → IsVoteOr cluster y c → IsVoteOr cluster (cond test x y) c
+    pick true x y h g = h
+    pick false x y h g = g
 
 -- ---- the rule
 
@@ -101,7 +103,7 @@ module _ (also : List Entry → Type 0) (closed : IsClosed also) (cluster : Clus
       ]
 
   -- a vote that is allowed is good
-  voted-good : (mark : Mark) (off : Option Choice) → IsAllowed cluster (Added a (voted_fact mark off) ∷ es) → vote_of (facts_of es a) choice.key choice.version choice.tx ≡ None →
+  voted-good : (mark : Mark) (off : Option Choice) → IsAllowed cluster (Added a (voted_fact mark off) ∷ es) → last_vote (facts_of es a) choice.key choice.version choice.tx ≡ None →
       IsGoodStep cluster also es a (Added a (voted_fact mark off) ∷ []) (to_one a s (Message.Voted choice.key choice.version fast_ballot choice.tx mark)) volatile
   voted-good mark off legal none = record {
     own = (refl, tt);
@@ -131,12 +133,12 @@ module _ (also : List Entry → Type 0) (closed : IsClosed also) (cluster : Clus
   escalate-good cause in-cause = sends-good also cluster es a volatile volatile _ up up.keeps (record { from = up.centre; old = es; tail = IsTail-same es; says = (parts.0, in-cause) }, tt)
 
   -- what holds where the instance is open for a vote at the fast ballot
-  is-mark : (mark : Mark) → heard_of (facts_of es a) choice.tx ≡ None → vote_of (facts_of es a) choice.key choice.version choice.tx ≡ None → nat_lt (current_of (facts_of es a) choice.key) choice.version ≡ false →
+  is-mark : (mark : Mark) → heard_of (facts_of es a) choice.tx ≡ None → is_finished (facts_of es a) choice.tx ≡ false → vote_of (facts_of es a) choice.key choice.version choice.tx ≡ None → nat_lt (current_of (facts_of es a) choice.key) choice.version ≡ false →
       is_fast (promise_of (facts_of es a) choice.key choice.version) ≡ true → vote_on cluster (facts_of es a) choice ≡ ProposeAnswer.Vote mark →
       is_allowed_mark cluster (facts_of es a) choice.key choice.version choice.tx mark choice ≡ true
-  is-mark mark heard none within fast vote =
-      and_from _ _ (and_from _ _ (and_from _ _ (and_from _ _ (and_from _ _ (and_from _ _ (and_from _ _ (tx-refl choice.tx) (eq-eqb choice.version choice.version refl)) ((Decides-key choice.key choice.key).1 refl))
-      (le-leb choice.version _ (ltb-false _ _ within))) fast) (rw none refl)) (rw heard refl)) (rw vote ((Decides-mark mark mark).1 refl))
+  is-mark mark heard left_open none within fast vote =
+      and_from _ _ (and_from _ _ (and_from _ _ (and_from _ _ (and_from _ _ (and_from _ _ (and_from _ _ (and_from _ _ (tx-refl choice.tx) (eq-eqb choice.version choice.version refl)) ((Decides-key choice.key choice.key).1 refl))
+      (le-leb choice.version _ (ltb-false _ _ within))) fast) (rw none refl)) (rw heard refl)) (rw left_open refl)) (rw vote ((Decides-mark mark mark).1 refl))
 
   accept-legal : is_allowed_mark cluster (facts_of es a) choice.key choice.version choice.tx (Accept choice) choice ≡ true → IsAllowed cluster (Added a (voted_fact (Accept choice) None) ∷ es)
   accept-legal mark = (
@@ -163,16 +165,16 @@ module _ (also : List Entry → Type 0) (closed : IsClosed also) (cluster : Clus
     ),
   )
 
-  new-good : heard_of (facts_of es a) choice.tx ≡ None → vote_of (facts_of es a) choice.key choice.version choice.tx ≡ None → GoodAnswer (answer_to_new cluster (facts_of es a) choice)
-  new-good heard none =
+  new-good : heard_of (facts_of es a) choice.tx ≡ None → is_finished (facts_of es a) choice.tx ≡ false → vote_of (facts_of es a) choice.key choice.version choice.tx ≡ None → GoodAnswer (answer_to_new cluster (facts_of es a) choice)
+  new-good heard left_open none =
       elim (cases_Bool (nat_lt (current_of (facts_of es a) choice.key) choice.version)) [
         | inl e ↦ subst GoodAnswer (sym (behind e)) (escalate-good Cause.Behind refl)
         | inr e ↦ elim (cases_Bool (is_fast (promise_of (facts_of es a) choice.key choice.version))) [
           | inl f ↦ subst GoodAnswer (sym (voting e f)) (elim (vote-on cluster (facts_of es a) choice parts.1) [
             | inl g ↦ subst GoodAnswer (sym g.2) (escalate-good g.0 g.1)
             | inr g ↦ elim g [
-              | inl k ↦ subst GoodAnswer (sym k) (refl, voted-good (Accept choice) None (accept-legal (is-mark (Accept choice) heard none e f k)) none)
-              | inr k ↦ subst GoodAnswer (sym k) (refl, voted-good Reject (Some choice) (reject-legal (is-mark Reject heard none e f k)) none)
+              | inl k ↦ subst GoodAnswer (sym k) (refl, voted-good (Accept choice) None (accept-legal (is-mark (Accept choice) heard left_open none e f k)) (unforgotten (facts_of es a) choice.key choice.version choice.tx left_open none))
+              | inr k ↦ subst GoodAnswer (sym k) (refl, voted-good Reject (Some choice) (reject-legal (is-mark Reject heard left_open none e f k)) (unforgotten (facts_of es a) choice.key choice.version choice.tx left_open none))
             ]
           ])
           | inr f ↦ subst GoodAnswer (sym (classic e f)) (escalate-good _ (promise-belongs cluster (facts_of es a) choice.key choice.version (facts-belong cluster es a up.legal)))
@@ -190,11 +192,31 @@ module _ (also : List Entry → Type 0) (closed : IsClosed also) (cluster : Clus
       classic e f = rw e (rw f refl)
 
   pub propose-good : IsGoodBy cluster also es a (propose_step (here cluster a (facts_of es a)) volatile s choice) (propose_step (here cluster a (facts_of es a)) volatile s choice).fact
-  propose-good = by_case (heard_of (facts_of es a) choice.tx) refl (vote_of (facts_of es a) choice.key choice.version choice.tx) refl
+  propose-good = by_case (outcome_kept (facts_of es a) choice.tx) refl
     where
-      by_case : (o : Option Outcome) → heard_of (facts_of es a) choice.tx ≡ o → (x : Option (Ballot × Mark)) → vote_of (facts_of es a) choice.key choice.version choice.tx ≡ x → GoodAnswer (answer_after cluster (facts_of es a) choice o x)
-      by_case (Some o) e x f =
-          let w = was-outcome cluster es a choice.tx o up.legal e in
+      by_vote : is_finished (facts_of es a) choice.tx ≡ false → heard_of (facts_of es a) choice.tx ≡ None → (x : Option (Ballot × Mark)) → vote_of (facts_of es a) choice.key choice.version choice.tx ≡ x → GoodAnswer (answer_by_vote cluster (facts_of es a) choice x)
+      by_vote u e (Some x) f = sends-good also cluster es a volatile volatile _ up up.keeps (record { from = up.centre; old = es; tail = IsTail-same es; says = vote-given cluster es a choice.key choice.version choice.tx x up.legal f }, tt)
+      by_vote u e None f = new-good e u f
+
+      by_case : (o : Option Outcome) → outcome_kept (facts_of es a) choice.tx ≡ o → GoodAnswer (answer_after cluster (facts_of es a) choice o)
+      by_case (Some o) e =
+          let w = was-outcome cluster es a choice.tx o up.legal (kept-heard (facts_of es a) choice.tx o e) in
           sends-good also cluster es a volatile volatile _ up up.keeps (record { from = up.centre; old = w.old; tail = w.tail; says = w.outcome }, tt)
-      by_case None e (Some x) f = sends-good also cluster es a volatile volatile _ up up.keeps (record { from = up.centre; old = es; tail = IsTail-same es; says = vote-given cluster es a choice.key choice.version choice.tx x up.legal f }, tt)
-      by_case None e None f = new-good e f
+      by_case None e =
+          elim (cases_Bool (is_finished (facts_of es a) choice.tx)) [
+            | inl u ↦ subst GoodAnswer (sym (finished u)) (sends-good also cluster es a volatile volatile _ up up.keeps (record { from = up.centre; old = es; tail = IsTail-same es; says = u }, tt))
+            | inr u ↦ subst GoodAnswer (sym (left_open u)) (by_vote u (unheard u e) (vote_of (facts_of es a) choice.key choice.version choice.tx) refl)
+          ]
+        where
+          unheard : is_finished (facts_of es a) choice.tx ≡ false → outcome_kept (facts_of es a) choice.tx ≡ None → heard_of (facts_of es a) choice.tx ≡ None
+          unheard u h = let g : heard_of (facts_of es a) choice.tx ≡ None = rw u at h in g
+
+          finished : is_finished (facts_of es a) choice.tx ≡ true → answer_after cluster (facts_of es a) choice None ≡ ProposeAnswer.Finished
+          finished u = rw u refl
+
+          left_open : is_finished (facts_of es a) choice.tx ≡ false → answer_after cluster (facts_of es a) choice None ≡ answer_by_vote cluster (facts_of es a) choice (vote_of (facts_of es a) choice.key choice.version choice.tx)
+          left_open u = if-not (is_finished (facts_of es a) choice.tx) u _ _
+            where
+              if-not : (x : Bool) → x ≡ false → (p q : ProposeAnswer) → cond x p q ≡ q
+              if-not true h p q = absurd (cc)
+              if-not false h p q = refl

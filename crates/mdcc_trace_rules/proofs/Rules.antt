@@ -16,7 +16,7 @@ use Rattle.mdcc_option.specs.declared.choices.Outcome.{Outcome}
 use Rattle.mdcc_struct.specs.Maps.{TxMap, value_of}
 use Rattle.mdcc_protocol.specs.Marks.{Amounts}
 use Rattle.mdcc_messages.specs.declared.facts.Fact.{Fact}
-use Rattle.mdcc_protocol.specs.Facts.{base_of, current_of, executed_of, is_heard, unresolved_of, write_sets_of}
+use Rattle.mdcc_protocol.specs.Facts.{base_of, current_of, executed_of, is_finished, is_heard, is_settled, unresolved_of, write_sets_of}
 use Rattle.mdcc_ledger.specs.Ledger.{Added, Entry, choices_begun, facts_of, outcome_of}
 use Rattle.mdcc_ledger.specs.AllowedLedgers.{IsBacked, IsAllowed}
 use Rattle.mdcc_ledger.specs.AllowedStructures.{is_begun}
@@ -52,6 +52,7 @@ use Rattle.mdcc_trace_states.proofs.Tests.{may-add}
 use Rattle.mdcc_protocol.specs.declared.manager.ManagerAct.{ManagerAct}
 use Rattle.mdcc_trace_rules.specs.Closed.{IsClosed}
 use Rattle.mdcc_trace_states.specs.Steps.{IsUp}
+use Rattle.mdcc_trace_rules.proofs.Accepting.{neither}
 use Rattle.mdcc_rules.specs.Here.{here}
 
 pub each-map-same : (P : Undecided → Type 0) (f : Undecided → Undecided) (ts : List Undecided) → ((t : Undecided) → P t → P (f t)) → Each P ts → Each P (map f ts)
@@ -72,6 +73,7 @@ led-keeps cluster es a v t k h = record {
   };
   recovery = h.recovery;
   leader = h.leader;
+  told = h.told;
 }
 
 map-again : (m : TxMap Amounts) → m ≡ map (λ (delta : Delta). (delta.tx, delta.amounts)) (map (λ (e : TxId × Amounts). record { tx = e.0; amounts = e.1 }) m)
@@ -92,12 +94,12 @@ module _ (also : List Entry → Type 0) (shut : IsClosed also) (cluster : Cluste
   Good step = IsGoodBy cluster also es a step step.fact
 
   -- the fact Heard of an outcome
-  heard-legal : (t : TxId) (o : Outcome) → outcome_of cluster.quorums es t ≡ Some o → is_heard (facts_of es a) t ≡ false → tx_belongs cluster t ≡ true → outcome_belongs cluster o ≡ true → is_crowding (facts_of es a) (Fact.Heard t o) ≡ false →
+  heard-legal : (t : TxId) (o : Outcome) → outcome_of cluster.quorums es t ≡ Some o → is_settled (facts_of es a) t ≡ false → tx_belongs cluster t ≡ true → outcome_belongs cluster o ≡ true → is_crowding (facts_of es a) (Fact.Heard t o) ≡ false →
       IsAllowed cluster (Added a (Fact.Heard t o) ∷ es)
   heard-legal t o is unheard tx outcome room =
-      (up.legal, (up.centre, may-add cluster (facts_of es a) (Fact.Heard t o) (and_from _ _ (and_from _ _ (and_from _ _ tx outcome) (lt-ltb 0 _ up.booted)) (and_from _ _ (rw unheard refl) (not_from_false (is_crowding (facts_of es a) (Fact.Heard t o)) room))), is))
+      (up.legal, (up.centre, may-add cluster (facts_of es a) (Fact.Heard t o) (and_from _ _ (and_from _ _ (and_from _ _ tx outcome) (lt-ltb 0 _ up.booted)) (and_from _ _ (and_from _ _ (not_from_false (is_heard (facts_of es a) t) (neither (is_heard (facts_of es a) t) (is_finished (facts_of es a) t) unheard).0) (not_from_false (is_finished (facts_of es a) t) (neither (is_heard (facts_of es a) t) (is_finished (facts_of es a) t) unheard).1)) (not_from_false (is_crowding (facts_of es a) (Fact.Heard t o)) room))), is))
 
-  pub heard-fact : (t : TxId) (o : Outcome) (v : Volatile) (sends : List Envelope) → Keeps cluster es a v → outcome_of cluster.quorums es t ≡ Some o → is_heard (facts_of es a) t ≡ false → tx_belongs cluster t ≡ true → outcome_belongs cluster o ≡ true →
+  pub heard-fact : (t : TxId) (o : Outcome) (v : Volatile) (sends : List Envelope) → Keeps cluster es a v → outcome_of cluster.quorums es t ≡ Some o → is_settled (facts_of es a) t ≡ false → tx_belongs cluster t ≡ true → outcome_belongs cluster o ≡ true →
       is_crowding (facts_of es a) (Fact.Heard t o) ≡ false → Each (TrueWhenSent cluster es) sends → IsGoodStep cluster also es a (Added a (Fact.Heard t o) ∷ []) sends (closed v t)
   heard-fact t o v sends keeps is unheard tx outcome room stand =
       let legal = heard-legal t o is unheard tx outcome room in
@@ -120,7 +122,7 @@ module _ (also : List Entry → Type 0) (shut : IsClosed also) (cluster : Cluste
   pub heard-good : (old : List Entry) (t : TxId) (o : Outcome) → IsTail old es → outcome_of cluster.quorums old t ≡ Some o → tx_belongs cluster t ≡ true → outcome_belongs cluster o ≡ true →
       ((fact : Fact) → (outcome_step (facts_of es a) volatile t o).fact ≡ Some fact → IsBacked cluster es a fact → is_crowding (facts_of es a) fact ≡ false) → Good (outcome_step (facts_of es a) volatile t o)
   heard-good old t o tail h tx outcome room =
-      elim (cases_Bool (is_heard (facts_of es a) t)) [
+      elim (cases_Bool (is_settled (facts_of es a) t)) [
         | inl e ↦ rw e (nothing-good also cluster es a volatile volatile up up.keeps)
         | inr e ↦
             let crowding : is_crowding (facts_of es a) (Fact.Heard t o) ≡ false = room (Fact.Heard t o) (rw e refl) (said-outcome old t o tail h) in
@@ -151,7 +153,7 @@ module _ (also : List Entry → Type 0) (shut : IsClosed also) (cluster : Cluste
 
   -- what a manager keeps in the place of what it kept
   managed : (m : Managing) → Manages cluster es a m → Keeps cluster es a (with_manager volatile m)
-  managed m h = record { manager = h; recovery = up.keeps.recovery; leader = up.keeps.leader }
+  managed m h = record { manager = h; recovery = up.keeps.recovery; leader = up.keeps.leader; told = up.keeps.told }
 
   pub lead-good : (m : Managing) (leader : ℕ) (t : TxId) (k : Key) → Manages cluster es a m → Good (acted_step a (facts_of es a) volatile (acted m (lead_act leader (choice_unled m t k))))
   lead-good m leader t k manages = by_case (choice_unled m t k) refl
@@ -182,7 +184,7 @@ module _ (also : List Entry → Type 0) (shut : IsClosed also) (cluster : Cluste
 
   -- ---- votes
 
-  decided-good : (t : TxId) (o : Outcome) → outcome_of cluster.quorums es t ≡ Some o → is_heard (facts_of es a) t ≡ false → tx_belongs cluster t ≡ true → outcome_belongs cluster o ≡ true →
+  decided-good : (t : TxId) (o : Outcome) → outcome_of cluster.quorums es t ≡ Some o → is_settled (facts_of es a) t ≡ false → tx_belongs cluster t ≡ true → outcome_belongs cluster o ≡ true →
       is_crowding (facts_of es a) (Fact.Heard t o) ≡ false → Good (decided_step cluster a volatile t o)
   decided-good t o is unheard tx outcome room =
       (refl, heard-fact t o volatile (to_others cluster.quorums a (Message.Outcome t o)) up.keeps is unheard tx outcome room (stands-each cluster es a (Message.Outcome t o) _ up.centre is))
@@ -238,7 +240,7 @@ module _ (also : List Entry → Type 0) (shut : IsClosed also) (cluster : Cluste
       manages : Manages cluster es a taken
       manages = taken-manages vote given
 
-  opened-good : (vote : Vote) (o : Option Outcome) → would_decide cluster.quorums volatile.manager vote ≡ o → IsGiven cluster es vote → is_heard (facts_of es a) vote.tx ≡ false → HasRoom (opened_step (here cluster a (facts_of es a)) volatile vote o) →
+  opened-good : (vote : Vote) (o : Option Outcome) → would_decide cluster.quorums volatile.manager vote ≡ o → IsGiven cluster es vote → is_settled (facts_of es a) vote.tx ≡ false → HasRoom (opened_step (here cluster a (facts_of es a)) volatile vote o) →
       Good (opened_step (here cluster a (facts_of es a)) volatile vote o)
   opened-good vote (Some o) e given unheard room =
       let d = decision-is (vote_taken cluster.quorums volatile.manager vote) vote.tx o (taken-manages vote given) e in
@@ -256,7 +258,7 @@ module _ (also : List Entry → Type 0) (shut : IsClosed also) (cluster : Cluste
           (0 < length (choices_begun es t)) × (keys ≡ keys_of_choices (choices_begun es t))
       by_case None e g = absurd (cc)
       by_case (Some ws) e g =
-          let w : value_of (write_sets_of (facts_of es a)) t ≡ Some ws = value_of-filter (λ u. not (is_heard (facts_of es a) u)) (write_sets_of (facts_of es a)) t ws e in
+          let w : value_of (write_sets_of (facts_of es a)) t ≡ Some ws = value_of-filter (λ u. not (is_settled (facts_of es a) u)) (write_sets_of (facts_of es a)) t ws e in
           let set = shut.sets cluster es a t ws up.legal up.more w in
           let s : map (λ (e : Key × ℕ). e.0) ws ≡ keys = cc in
           (some-in set.choice (choices_begun es t) set.begun, sym s ∙ set-keys cluster es t ws up.legal set)
@@ -274,9 +276,9 @@ module _ (also : List Entry → Type 0) (shut : IsClosed also) (cluster : Cluste
       watched_told (Recover.on_voted cluster.quorums (facts_of es a) volatile.recovery vote)
   watched-is vote = told-by vote (Recover.on_voted cluster.quorums (facts_of es a) volatile.recovery vote) refl
 
-  watched-good : (vote : Vote) (keys : Option (List Key)) → keys_watched (facts_of es a) volatile.recovery vote.tx ≡ keys → IsGiven cluster es vote → is_heard (facts_of es a) vote.tx ≡ false →
+  watched-good : (vote : Vote) (keys : Option (List Key)) → keys_watched (facts_of es a) volatile.recovery vote.tx ≡ keys → IsGiven cluster es vote → is_settled (facts_of es a) vote.tx ≡ false →
       HasRoom (watched_told (on_voted_by cluster.quorums volatile.recovery vote keys)) → Good (watched_told (on_voted_by cluster.quorums volatile.recovery vote keys))
-  watched-good vote None e given unheard room = nothing-good also cluster es a volatile (with_recovery volatile volatile.recovery) up (record { manager = up.keeps.manager; recovery = up.keeps.recovery; leader = up.keeps.leader })
+  watched-good vote None e given unheard room = nothing-good also cluster es a volatile (with_recovery volatile volatile.recovery) up (record { manager = up.keeps.manager; recovery = up.keeps.recovery; leader = up.keeps.leader; told = up.keeps.told })
   watched-good vote (Some keys) e given unheard room = by_case (decision_of cluster.quorums after.votes vote.tx keys) refl room
     where
       after : Recovering
@@ -292,11 +294,11 @@ module _ (also : List Entry → Type 0) (shut : IsClosed also) (cluster : Cluste
           let d' : decision_of cluster.quorums after.votes vote.tx (keys_of_choices (choices_begun es vote.tx)) ≡ Some o = subst (λ z. decision_of cluster.quorums after.votes vote.tx z ≡ Some o) set.1 d in
           let is = decided cluster up.sizes es after.votes vote.tx o up.legal up.placed one votes set.0 d' in
           decided-good vote.tx o is unheard given.tx (decision-belongs cluster es after.votes vote.tx keys o votes d) (r (Fact.Heard vote.tx o) refl is)
-      by_case None d r = nothing-good also cluster es a volatile (with_recovery volatile after) up (record { manager = up.keeps.manager; recovery = votes; leader = up.keeps.leader })
+      by_case None d r = nothing-good also cluster es a volatile (with_recovery volatile after) up (record { manager = up.keeps.manager; recovery = votes; leader = up.keeps.leader; told = up.keeps.told })
 
   pub voted-good : (vote : Vote) → IsGiven cluster es vote → HasRoom (voted_step (here cluster a (facts_of es a)) volatile vote) → Good (voted_step (here cluster a (facts_of es a)) volatile vote)
   voted-good vote given room =
-      elim (cases_Bool (is_heard (facts_of es a) vote.tx)) [
+      elim (cases_Bool (is_settled (facts_of es a) vote.tx)) [
         | inl e ↦ rw e (nothing-good also cluster es a volatile volatile up up.keeps)
         | inr e ↦ elim (cases_Bool (is_open volatile.manager vote.tx)) [
           | inl f ↦ subst Good (sym (opened e f)) (opened-good vote (would_decide cluster.quorums volatile.manager vote) refl given e (subst HasRoom (opened e f) room))
@@ -304,18 +306,18 @@ module _ (also : List Entry → Type 0) (shut : IsClosed also) (cluster : Cluste
         ]
       ]
     where
-      opened : is_heard (facts_of es a) vote.tx ≡ false → is_open volatile.manager vote.tx ≡ true → voted_step (here cluster a (facts_of es a)) volatile vote ≡
+      opened : is_settled (facts_of es a) vote.tx ≡ false → is_open volatile.manager vote.tx ≡ true → voted_step (here cluster a (facts_of es a)) volatile vote ≡
           opened_step (here cluster a (facts_of es a)) volatile vote (would_decide cluster.quorums volatile.manager vote)
-      opened e f = pick2 (is_heard (facts_of es a) vote.tx) (is_open volatile.manager vote.tx) e f _ _ _
+      opened e f = pick2 (is_settled (facts_of es a) vote.tx) (is_open volatile.manager vote.tx) e f _ _ _
         where
           pick2 : (x y : Bool) → x ≡ false → y ≡ true → (p q r : NodeStep) → cond x p (cond y q r) ≡ q
           pick2 true y e f p q r = absurd (cc)
           pick2 false true e f p q r = refl
           pick2 false false e f p q r = absurd (cc)
 
-      watched : is_heard (facts_of es a) vote.tx ≡ false → is_open volatile.manager vote.tx ≡ false → voted_step (here cluster a (facts_of es a)) volatile vote ≡
+      watched : is_settled (facts_of es a) vote.tx ≡ false → is_open volatile.manager vote.tx ≡ false → voted_step (here cluster a (facts_of es a)) volatile vote ≡
           watched_told (on_voted_by cluster.quorums volatile.recovery vote (keys_watched (facts_of es a) volatile.recovery vote.tx))
-      watched e f = pick3 (is_heard (facts_of es a) vote.tx) (is_open volatile.manager vote.tx) e f _ _ _ ∙ watched-is vote
+      watched e f = pick3 (is_settled (facts_of es a) vote.tx) (is_open volatile.manager vote.tx) e f _ _ _ ∙ watched-is vote
         where
           pick3 : (x y : Bool) → x ≡ false → y ≡ false → (p q r : NodeStep) → cond x p (cond y q r) ≡ r
           pick3 true y e f p q r = absurd (cc)

@@ -1,5 +1,5 @@
 -- Catching up and asking: good steps.
-use Rattle.std.proofs.Common.{List, None, Option, Some, [], ap, false, inl, inr, refl, sym, true, ℕ, ◌++◌, ◌∷◌, ◌≡◌}
+use Rattle.std.proofs.Common.{Bool, List, None, Option, Some, [], ap, cond, false, inl, inr, refl, subst, sym, true, ℕ, ◌++◌, ◌∷◌, ◌≡◌}
 use Rattle.std.specs.Prelude.{map}
 use Rattle.std.proofs.lemmas.Bool.{and_from, cases_Bool, lt-ltb, not_from_false}
 use Rattle.mdcc_base.specs.declared.identifiers.Ballot.{Ballot}
@@ -11,12 +11,12 @@ use Rattle.mdcc_option.specs.declared.items.Item.{Item}
 use Rattle.mdcc_option.specs.declared.choices.Mark.{Mark}
 use Rattle.mdcc_option.specs.declared.choices.Outcome.{Outcome}
 use Rattle.mdcc_messages.specs.declared.facts.Fact.{Fact}
-use Rattle.mdcc_protocol.specs.Facts.{base_of, current_of, executed_of, heard_of, vote_of}
+use Rattle.mdcc_protocol.specs.Facts.{base_of, current_of, executed_of, is_finished, outcome_kept, vote_of}
 use Rattle.mdcc_ledger.specs.Ledger.{Added, Entry, facts_of}
 use Rattle.mdcc_ledger.specs.AllowedLedgers.{IsAllowed, IsBacked}
 use Rattle.mdcc_protocol.specs.Belongs.{adds_belong, item_belongs}
 use Rattle.mdcc_protocol.specs.News.{is_crowding, is_news}
-use Rattle.mdcc_rules.specs.AcceptorRules.{ask_step, ask_step_by}
+use Rattle.mdcc_rules.specs.AcceptorRules.{ask_step, ask_step_after, ask_step_by}
 use Rattle.mdcc_rules.specs.SyncRules.{give_sent, sync_ask_step, sync_give_step}
 use Rattle.mdcc_rules.specs.Steps.{NodeStep}
 use Rattle.mdcc_protocol.specs.Volatile.{Volatile}
@@ -26,7 +26,7 @@ use Rattle.mdcc_trace_states.proofs.Lists.{IsTail-same}
 use Rattle.mdcc_trace_states.proofs.Kept.{ArePlaced-fact, Keeps-more, quiet-fact}
 use Rattle.mdcc_trace_rules.proofs.Begins.{nothing-good, sends-good}
 use Rattle.mdcc_trace_rules.proofs.Rules.{give-stands}
-use Rattle.mdcc_trace_rules.proofs.Votings.{vote-given, was-outcome}
+use Rattle.mdcc_trace_rules.proofs.Votings.{kept-heard, vote-given, was-outcome}
 use Rattle.mdcc_trace_states.proofs.Tests.{may-add}
 use Rattle.mdcc_trace_rules.specs.Closed.{IsClosed}
 use Rattle.mdcc_trace_states.specs.Steps.{IsUp}
@@ -48,12 +48,26 @@ module _ (also : List Entry → Type 0) (shut : IsClosed also) (cluster : Cluste
   sync-ask-good s k = sends-good also cluster es a volatile volatile (give_sent a (facts_of es a) s k) up up.keeps (give-stands cluster es a s k up.centre)
 
   pub ask-good : (s : ℕ) (t : TxId) (k : Key) (v : ℕ) → Well (ask_step a (facts_of es a) volatile s t k v)
-  ask-good s t k v = by_case (heard_of (facts_of es a) t) refl (vote_of (facts_of es a) k v t) refl
+  ask-good s t k v = by_case (outcome_kept (facts_of es a) t) refl
     where
-      by_case : (o : Option Outcome) → heard_of (facts_of es a) t ≡ o → (x : Option (Ballot × Mark)) → vote_of (facts_of es a) k v t ≡ x → Well (ask_step_by a volatile s t k v o x)
-      by_case (Some o) e x f = let w = was-outcome cluster es a t o up.legal e in sends-good also cluster es a volatile volatile _ up up.keeps (record { from = up.centre; old = w.old; tail = w.tail; says = w.outcome }, tt)
-      by_case None e (Some x) f = sends-good also cluster es a volatile volatile _ up up.keeps (record { from = up.centre; old = es; tail = IsTail-same es; says = vote-given cluster es a k v t x up.legal f }, tt)
-      by_case None e None f = nothing-good also cluster es a volatile volatile up up.keeps
+      by_vote : (x : Option (Ballot × Mark)) → vote_of (facts_of es a) k v t ≡ x → Well (ask_step_after a volatile s t k v x)
+      by_vote (Some x) f = sends-good also cluster es a volatile volatile _ up up.keeps (record { from = up.centre; old = es; tail = IsTail-same es; says = vote-given cluster es a k v t x up.legal f }, tt)
+      by_vote None f = nothing-good also cluster es a volatile volatile up up.keeps
+
+      by_case : (o : Option Outcome) → outcome_kept (facts_of es a) t ≡ o → Well (ask_step_by a (facts_of es a) volatile s t k v o)
+      by_case (Some o) e = let w = was-outcome cluster es a t o up.legal (kept-heard (facts_of es a) t o e) in sends-good also cluster es a volatile volatile _ up up.keeps (record { from = up.centre; old = w.old; tail = w.tail; says = w.outcome }, tt)
+      by_case None e =
+          elim (cases_Bool (is_finished (facts_of es a) t)) [
+            | inl u ↦ rw u (sends-good also cluster es a volatile volatile _ up up.keeps (record { from = up.centre; old = es; tail = IsTail-same es; says = u }, tt))
+            | inr u ↦ subst Well (sym (left_open u)) (by_vote (vote_of (facts_of es a) k v t) refl)
+          ]
+        where
+          left_open : is_finished (facts_of es a) t ≡ false → ask_step_by a (facts_of es a) volatile s t k v None ≡ ask_step_after a volatile s t k v (vote_of (facts_of es a) k v t)
+          left_open u = if-not (is_finished (facts_of es a) t) u _ _
+            where
+              if-not : (x : Bool) → x ≡ false → (p q : NodeStep) → cond x p q ≡ q
+              if-not true h p q = absurd (cc)
+              if-not false h p q = refl
 
   adopted : Key → ℕ → Item → List Delta → Fact
   adopted k v item adds = Fact.Adopted k v item adds

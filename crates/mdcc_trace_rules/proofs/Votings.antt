@@ -1,5 +1,5 @@
 -- What a centre heard and voted, in an allowed ledger.
-use Rattle.std.proofs.Common.{Bool, List, None, Option, Some, [], ap, arith, false, inl, inr, length, not, refl, subst, sym, true, ℕ, ◌&&◌, ◌==◌, ◌∙◌, ◌∷◌, ◌≡◌, ◌⊎◌}
+use Rattle.std.proofs.Common.{Bool, List, None, Option, Some, [], ap, arith, cond, false, inl, inr, length, not, refl, subst, sym, true, ℕ, ◌&&◌, ◌==◌, ◌∙◌, ◌||◌, ◌∷◌, ◌≡◌, ◌⊎◌}
 use Rattle.std.specs.Prelude.{filter, is_some, nat_le, option_map}
 use Rattle.std.specs.Option.{option_or}
 use Rattle.std.proofs.lemmas.Bool.{and_from, and_parts, cases_Bool, eq-eqb, eqb-true, not-true}
@@ -18,7 +18,7 @@ use Rattle.mdcc_option.specs.declared.choices.Outcome.{Outcome}
 use Rattle.mdcc_struct.specs.declared.options.Options.{Options}
 use Rattle.mdcc_struct.specs.Maps.{value_of}
 use Rattle.mdcc_messages.specs.declared.facts.Fact.{Fact}
-use Rattle.mdcc_protocol.specs.Facts.{current_of, heard_of, is_heard, later_vote, mark_voted, marks_voted, outcome_in, promise_of, vote_of, votes_of}
+use Rattle.mdcc_protocol.specs.Facts.{current_of, heard_of, is_finished, is_forgotten, is_heard, is_idle, last_vote, later_vote, mark_voted, marks_voted, outcome_in, outcome_kept, promise_of, vote_of, votes_of}
 use Rattle.mdcc_protocol.specs.Acceptor.{new_marks, vote_on}
 use Rattle.mdcc_ledger.specs.Ledger.{Added, Entry, Valued, facts_of, mark_given, outcome_of}
 use Rattle.mdcc_ledger.specs.AllowedLedgers.{IsAllowed}
@@ -51,6 +51,7 @@ was-outcome cluster (Added c f ∷ es) a t o legal h =
 
     new : (f : Fact) → IsAllowed cluster (Added c f ∷ es) → outcome_in t f ≡ Some o → WasOutcome cluster (Added c f ∷ es) t o
     new (Fact.Booted n) legal g = absurd (cc)
+    new (Fact.Floor centre era upto) legal g = absurd (cc)
     new (Fact.Promised k lo hi m) legal g = absurd (cc)
     new (Fact.Voted k v m os off) legal g = absurd (cc)
     new (Fact.Adopted k v it ds) legal g = absurd (cc)
@@ -94,11 +95,13 @@ pub record IsMarkOf (cluster : Cluster) (facts : List Fact) (k : Key) (v : ℕ) 
   pub fast : is_fast (promise_of facts k v) ≡ true
   pub unvoted : vote_of facts k v t ≡ None
   pub unheard : is_heard facts t ≡ false
+  pub unfinished : is_finished facts t ≡ false
   pub answer : is_answer m (vote_on cluster facts c) ≡ true
 
 pub mark-parts : (cluster : Cluster) (facts : List Fact) (k : Key) (v : ℕ) (t : TxId) (m : Mark) (c : Choice) → is_allowed_mark cluster facts k v t m c ≡ true → IsMarkOf cluster facts k v t m c
 mark-parts cluster facts k v t m c h =
-    let p7 = and_parts _ (is_answer m (vote_on cluster facts c)) h in
+    let p8 = and_parts _ (is_answer m (vote_on cluster facts c)) h in
+    let p7 = and_parts _ (not (is_finished facts t)) p8.0 in
     let p6 = and_parts _ (not (is_heard facts t)) p7.0 in
     let p5 = and_parts _ (not (is_some (vote_of facts k v t))) p6.0 in
     let p4 = and_parts _ (is_fast (promise_of facts k v)) p5.0 in
@@ -113,7 +116,8 @@ mark-parts cluster facts k v t m c h =
       fast = p4.1;
       unvoted = is_some-none _ (not-true _ p5.1);
       unheard = not-true _ p6.1;
-      answer = p7.1;
+      unfinished = not-true _ p7.1;
+      answer = p8.1;
     }
 
 -- ---- the vote at the greatest ballot is one that the centre gives
@@ -138,6 +142,7 @@ later-none (Some y) (Some z) h =
 
 unmarked : (f : Fact) (k : Key) (v : ℕ) (t : TxId) (b : Ballot) → mark_voted k v t f ≡ None → value_of (marks_voted k v b f) t ≡ None
 unmarked (Fact.Booted n) k v t b h = refl
+unmarked (Fact.Floor centre era upto) k v t b h = refl
 unmarked (Fact.Promised j lo hi m) k v t b h = refl
 unmarked (Fact.Heard u o) k v t b h = refl
 unmarked (Fact.Adopted j w it ds) k v t b h = refl
@@ -156,11 +161,15 @@ unmarked (Fact.Voted j w m os off) k v t b h =
     none None g = refl
     none (Some x) g = absurd (cc)
 
+-- where a transaction is not finished, no vote of it is forgotten
+pub unforgotten : (fs : List Fact) (k : Key) (v : ℕ) (t : TxId) → is_finished fs t ≡ false → vote_of fs k v t ≡ None → last_vote fs k v t ≡ None
+unforgotten fs k v t u h = let g : last_vote fs k v t ≡ None = rw u at h in g
+
 -- a transaction without a vote has none at a ballot
-pub unvoted : (fs : List Fact) (k : Key) (v : ℕ) (t : TxId) (b : Ballot) → vote_of fs k v t ≡ None → value_of (votes_of fs k v b) t ≡ None
+pub unvoted : (fs : List Fact) (k : Key) (v : ℕ) (t : TxId) (b : Ballot) → last_vote fs k v t ≡ None → value_of (votes_of fs k v b) t ≡ None
 unvoted [] k v t b h = refl
 unvoted (f ∷ fs) k v t b h =
-    let p = later-none (vote_of fs k v t) (mark_voted k v t f) h in
+    let p = later-none (last_vote fs k v t) (mark_voted k v t f) h in
     value_of-union (votes_of fs k v b) (marks_voted k v b f) t ∙ (rw (unvoted fs k v t b p.0) (unmarked f k v t b p.1))
 
 filter-all : {A : Type 0} (p : A → Bool) (xs : List A) (x : A) → length (filter p xs) ≡ length xs → In x xs → p x ≡ true
@@ -192,38 +201,43 @@ votes-new cluster es c k v b os off t m legal h =
           let i = value-In os t m h in
           let j : In i.0 ((r.tx, r.mark) ∷ []) = subst (λ z. In i.0 z) r.only i.1 in
           let s : r.tx ≡ t = sym (one-of i.0 (r.tx, r.mark) j) ∙ i.2 in
-          subst (λ z. value_of (votes_of (facts_of es c) k v b) z ≡ None) s (unvoted (facts_of es c) k v r.tx b p.unvoted)
+          subst (λ z. value_of (votes_of (facts_of es c) k v b) z ≡ None) s (unvoted (facts_of es c) k v r.tx b (unforgotten (facts_of es c) k v r.tx p.unfinished p.unvoted))
       | inr e ↦
           let g : is_allowed_classic_vote (facts_of es c) k v b os off ≡ true = rw e at test in
           let p4 = and_parts _ (not (is_some off)) g in
           let p3 = and_parts _ (length (new_marks (facts_of es c) k v b os) == length os) p4.0 in
           let i = value-In os t m h in
-          let n = filter-all (λ e. not (is_some (value_of (votes_of (facts_of es c) k v b) e.0))) os i.0 (eqb-true _ _ p3.1) i.1 in
-          subst (λ z. value_of (votes_of (facts_of es c) k v b) z ≡ None) i.2 (is_some-none _ (not-true _ n))
+          let n = filter-all (λ e. not (is_some (value_of (votes_of (facts_of es c) k v b) e.0) || is_finished (facts_of es c) e.0)) os i.0 (eqb-true _ _ p3.1) i.1 in
+          subst (λ z. value_of (votes_of (facts_of es c) k v b) z ≡ None) i.2 (is_some-none _ (first (is_some (value_of (votes_of (facts_of es c) k v b) i.0.0)) (is_finished (facts_of es c) i.0.0) (not-true _ n)))
     ]
   where
     test : is_allowed_kind cluster (facts_of es c) (Fact.Voted k v b os off) ≡ true
     test = kind cluster es c (Fact.Voted k v b os off) legal
 
+    first : (x y : Bool) → (x || y) ≡ false → x ≡ false
+    first true y h = absurd (cc)
+    first false y h = refl
+
     one-of : (x y : TxId × Mark) → In x (y ∷ []) → x.0 ≡ y.0
     one-of x y i = elim i [ inl s ↦ ap (λ (z : TxId × Mark). z.0) s | inr r ↦ absurd r ]
 
-pub vote-given : (cluster : Cluster) (es : List Entry) (a : ℕ) (k : Key) (v : ℕ) (t : TxId) (x : Ballot × Mark) → IsAllowed cluster es → vote_of (facts_of es a) k v t ≡ Some x → mark_given es k v x.0 t a ≡ Some x.1
-vote-given cluster [] a k v t x legal h = absurd (cc)
-vote-given cluster (Entry.Begun c u cs ∷ es) a k v t x legal h = vote-given cluster es a k v t x legal.0 h
-vote-given cluster (Valued c j w m os ∷ es) a k v t x legal h = vote-given cluster es a k v t x legal.0 h
-vote-given cluster (Added c f ∷ es) a k v t x legal h =
+last-given : (cluster : Cluster) (es : List Entry) (a : ℕ) (k : Key) (v : ℕ) (t : TxId) (x : Ballot × Mark) → IsAllowed cluster es → last_vote (facts_of es a) k v t ≡ Some x → mark_given es k v x.0 t a ≡ Some x.1
+last-given cluster [] a k v t x legal h = absurd (cc)
+last-given cluster (Entry.Begun c u cs ∷ es) a k v t x legal h = last-given cluster es a k v t x legal.0 h
+last-given cluster (Valued c j w m os ∷ es) a k v t x legal h = last-given cluster es a k v t x legal.0 h
+last-given cluster (Added c f ∷ es) a k v t x legal h =
     elim (cases_Bool (c == a)) [
-      | inl e ↦ let g : later_vote (vote_of (facts_of es a) k v t) (mark_voted k v t f) ≡ Some x = rw e at h in
-          elim (later-one (vote_of (facts_of es a) k v t) (mark_voted k v t f) x g) [
-            | inl old ↦ mark-more (Added c f) es k v x.0 t a x.1 (vote-given cluster es a k v t x legal.0 old)
+      | inl e ↦ let g : later_vote (last_vote (facts_of es a) k v t) (mark_voted k v t f) ≡ Some x = rw e at h in
+          elim (later-one (last_vote (facts_of es a) k v t) (mark_voted k v t f) x g) [
+            | inl old ↦ mark-more (Added c f) es k v x.0 t a x.1 (last-given cluster es a k v t x legal.0 old)
             | inr new ↦ by-fact f legal (eqb-true c a e) new
           ]
-      | inr e ↦ let g : vote_of (facts_of es a) k v t ≡ Some x = rw e at h in mark-more (Added c f) es k v x.0 t a x.1 (vote-given cluster es a k v t x legal.0 g)
+      | inr e ↦ let g : last_vote (facts_of es a) k v t ≡ Some x = rw e at h in mark-more (Added c f) es k v x.0 t a x.1 (last-given cluster es a k v t x legal.0 g)
     ]
   where
     by-fact : (f : Fact) → IsAllowed cluster (Added c f ∷ es) → c ≡ a → mark_voted k v t f ≡ Some x → mark_given (Added c f ∷ es) k v x.0 t a ≡ Some x.1
     by-fact (Fact.Booted n) legal s g = absurd (cc)
+    by-fact (Fact.Floor centre era upto) legal s g = absurd (cc)
     by-fact (Fact.Promised j lo hi m) legal s g = absurd (cc)
     by-fact (Fact.Heard u o) legal s g = absurd (cc)
     by-fact (Fact.Adopted j w it ds) legal s g = absurd (cc)
@@ -251,3 +265,18 @@ vote-given cluster (Added c f ∷ es) a k v t x legal h =
             let here : (c == a) ≡ true = eq-eqb c a s in
             let test : (w == v && ballot_eq m x.0 && key_eq j k) ≡ true = and_from _ _ (and_from _ _ (eq-eqb w v p) ((Decides-ballot m x.0).1 b)) ((Decides-key j k).1 q) in
             rw here (value_of-union (votes_of (facts_of es a) k v x.0) (marks_voted k v x.0 (Fact.Voted j w m os off)) t ∙ (rw none (rw test (o ∙ ap Some n))))
+
+pub vote-given : (cluster : Cluster) (es : List Entry) (a : ℕ) (k : Key) (v : ℕ) (t : TxId) (x : Ballot × Mark) → IsAllowed cluster es → vote_of (facts_of es a) k v t ≡ Some x → mark_given es k v x.0 t a ≡ Some x.1
+vote-given cluster es a k v t x legal h =
+    elim (cases_Bool (is_forgotten (facts_of es a) k v t)) [
+      | inl e ↦ let bad : None ≡ Some x = rw e at h in absurd (cc)
+      | inr e ↦ let g : last_vote (facts_of es a) k v t ≡ Some x = rw e at h in last-given cluster es a k v t x legal g
+    ]
+
+-- an outcome that is kept was heard
+pub kept-heard : (fs : List Fact) (t : TxId) (o : Outcome) → outcome_kept fs t ≡ Some o → heard_of fs t ≡ Some o
+kept-heard fs t o h = by_case (is_idle fs t) (heard_of fs t) h
+  where
+    by_case : (idle : Bool) (p : Option Outcome) → cond idle None p ≡ Some o → p ≡ Some o
+    by_case true p g = absurd (cc)
+    by_case false p g = g

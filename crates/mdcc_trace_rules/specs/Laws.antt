@@ -1,6 +1,6 @@
 -- What of an allowed ledger lasts, and in what order its structures stand.
-use Rattle.std.specs.Prelude.{List, Some, false, true, ℕ, ◌-◌, ◌^◌, ◌≡◌, ◌≤◌, ◌⊎◌}
-use Rattle.mdcc_base.specs.Ballot.{ballot_lt}
+use Rattle.std.specs.Prelude.{List, Some, false, true, ℕ, ◌-◌, ◌^◌, if◌then◌else◌, [], ◌≡◌, ◌≤◌, ◌⊎◌}
+use Rattle.mdcc_base.specs.Ballot.{ballot_lt, is_fast}
 use Rattle.mdcc_base.specs.declared.identifiers.Ballot.{Ballot}
 use Rattle.mdcc_base.specs.declared.identifiers.TxId.{TxId}
 use Rattle.mdcc_base.specs.declared.key.Key.{Key}
@@ -8,8 +8,10 @@ use Rattle.mdcc_option.specs.declared.choices.Mark.{Mark}
 use Rattle.mdcc_option.specs.declared.cluster.Cluster.{Cluster}
 use Rattle.mdcc_struct.specs.Maps.{value_of}
 use Rattle.mdcc_struct.specs.declared.options.Options.{Options}
+use Rattle.mdcc_struct.specs.declared.report.Report.{Report}
+use Rattle.mdcc_messages.specs.declared.facts.Fact.{Fact}
 use Rattle.mdcc_ledger.specs.AllowedLedgers.{IsAllowed, is_valued}
-use Rattle.mdcc_protocol.specs.Facts.{current_of, promise_of, report_of}
+use Rattle.mdcc_protocol.specs.Facts.{current_of, last_ballot, promise_of, votes_of}
 use Rattle.mdcc_ledger.specs.Ledger.{Entry, facts_of}
 use Rattle.mdcc_trace_states.specs.Words.{IsTail}
 
@@ -17,13 +19,19 @@ use Rattle.mdcc_trace_states.specs.Words.{IsTail}
 abbrev pub Extends : Options → Options → Type 0
 Extends less more = (t : TxId) (x : Mark) → value_of less t ≡ Some x → value_of more t ≡ Some x
 
+-- the greatest ballot below another one at which a centre voted, and all that it voted there, shown or forgotten
+abbrev pub last_report : List Fact → Key → ℕ → Ballot → Report
+last_report facts key version below =
+    let ballot = last_ballot facts key version below in
+    record { centre = 0; ballot = ballot; votes = if is_fast below then [] else votes_of facts key version ballot }
+
 -- a promise bars votes below its ballot: what the centre voted there stays what it was when it promised
 abbrev pub ReportsLast : Type 0
 ReportsLast =
     (cluster : Cluster) (old es : List Entry) (a : ℕ) (key : Key) (version : ℕ) (ballot : Ballot)
     → IsAllowed cluster es → IsTail old es
     → ballot_lt (promise_of (facts_of old a) key version) ballot ≡ false
-    → (report_of 0 (facts_of es a) key version ballot ≡ report_of 0 (facts_of old a) key version ballot)
+    → (last_report (facts_of es a) key version ballot ≡ last_report (facts_of old a) key version ballot)
     × (ballot_lt (promise_of (facts_of es a) key version) ballot ≡ false)
 
 -- of two structures that were sent for one instance at one ballot, one extends the other

@@ -85,6 +85,7 @@ or-fast cluster false b h = refl
 
 promised-belongs : (cluster : Cluster) (k : Key) (v : ℕ) (f : Fact) → fact_belongs cluster f ≡ true → ballot_belongs cluster (ballot_promised k v f) ≡ true
 promised-belongs cluster k v (Fact.Booted n) h = refl
+promised-belongs cluster k v (Fact.Floor origin era upto) h = refl
 promised-belongs cluster k v (Fact.Promised j lo hi b) h = or-fast cluster (nat_le lo v && nat_le v hi && key_eq j k) b h
 promised-belongs cluster k v (Fact.Voted j w b os off) h = or-fast cluster (w == v && key_eq j k) b (vote-of cluster j w b os off h).ballot
 promised-belongs cluster k v (Fact.Heard t o) h = refl
@@ -96,6 +97,7 @@ promise-belongs cluster (f ∷ fs) k v h = max-belongs cluster (promise_of fs k 
 
 voted-belongs : (cluster : Cluster) (k : Key) (v : ℕ) (m : Ballot) (f : Fact) → fact_belongs cluster f ≡ true → ballot_belongs cluster (ballot_voted k v m f) ≡ true
 voted-belongs cluster k v m (Fact.Booted n) h = refl
+voted-belongs cluster k v m (Fact.Floor origin era upto) h = refl
 voted-belongs cluster k v m (Fact.Promised j lo hi b) h = refl
 voted-belongs cluster k v m (Fact.Voted j w b os off) h = or-fast cluster (w == v && ballot_lt b m && key_eq j k) b (vote-of cluster j w b os off h).ballot
 voted-belongs cluster k v m (Fact.Heard t o) h = refl
@@ -111,6 +113,7 @@ through-belongs cluster (f ∷ fs) k v m high h e = by_case (λ g. through-belon
   where
     new : (f : Fact) → fact_belongs cluster f ≡ true → range_promised k v m f ≡ Some high → ballot_belongs cluster m ≡ true
     new (Fact.Booted n) h g = absurd (cc)
+    new (Fact.Floor origin era upto) h g = absurd (cc)
     new (Fact.Heard t o) h g = absurd (cc)
     new (Fact.Adopted j w it ds) h g = absurd (cc)
     new (Fact.Voted j w b os off) h g = absurd (cc)
@@ -138,6 +141,7 @@ votes-belong cluster (f ∷ fs) k v b h = each-union (λ (e : TxId × Mark). IsM
   where
     new : (f : Fact) → fact_belongs cluster f ≡ true → Each (λ (e : TxId × Mark). IsMarkOf cluster e.0 e.1) (marks_voted k v b f)
     new (Fact.Booted n) h = tt
+    new (Fact.Floor origin era upto) h = tt
     new (Fact.Promised j lo hi m) h = tt
     new (Fact.Heard t o) h = tt
     new (Fact.Adopted j w it ds) h = tt
@@ -159,6 +163,7 @@ vote-ballot cluster (f ∷ fs) k v b t m h e = by_case (λ g. vote-ballot cluste
   where
     new : (f : Fact) → fact_belongs cluster f ≡ true → value_of (marks_voted k v b f) t ≡ Some m → ballot_belongs cluster b ≡ true
     new (Fact.Booted n) h g = absurd (cc)
+    new (Fact.Floor origin era upto) h g = absurd (cc)
     new (Fact.Promised j lo hi c) h g = absurd (cc)
     new (Fact.Heard u o) h g = absurd (cc)
     new (Fact.Adopted j w it ds) h g = absurd (cc)
@@ -213,6 +218,7 @@ commit-base cluster k v (c ∷ cs) o item h f e =
 
 base-from : (cluster : Cluster) (k : Key) (v : ℕ) (f : Fact) (item : Item) → fact_belongs cluster f ≡ true → base_from k v f ≡ Some item → item_belongs cluster item ≡ true
 base-from cluster k v (Fact.Booted n) item h e = absurd (cc)
+base-from cluster k v (Fact.Floor origin era upto) item h e = absurd (cc)
 base-from cluster k v (Fact.Promised j lo hi b) item h e = absurd (cc)
 base-from cluster k v (Fact.Voted j w b os off) item h e = absurd (cc)
 base-from cluster k v (Fact.Heard t (Outcome.Commit cs)) item h e = commit-base cluster k v cs None item (and_parts (tx_belongs cluster t) (list_all (choice_belongs cluster) cs) h).1 (λ it g. absurd (cc)) e
@@ -270,6 +276,7 @@ deltas-belong cluster (f ∷ fs) k v h = each-union (λ (e : TxId × Amounts). I
   where
     new : (f : Fact) → fact_belongs cluster f ≡ true → Each (λ (e : TxId × Amounts). IsDeltaOf cluster e.0 e.1) (deltas_from k v f)
     new (Fact.Booted n) h = tt
+    new (Fact.Floor origin era upto) h = tt
     new (Fact.Promised j lo hi m) h = tt
     new (Fact.Voted j w m os off) h = tt
     new (Fact.Heard t (Outcome.Commit cs)) h = commit-deltas cluster k v cs (and_parts (tx_belongs cluster t) (list_all (choice_belongs cluster) cs) h).1

@@ -46,6 +46,7 @@ epoch-count cluster (Added c f ∷ es) a legal =
     here (Fact.Promised k lo hi m) legal s h = omega (arith, h)
     here (Fact.Voted k v m os off) legal s h = omega (arith, h)
     here (Fact.Heard t o) legal s h = omega (arith, h)
+    here (Fact.Floor origin era upto) legal s h = omega (arith, h)
     here (Fact.Adopted k v it ds) legal s h = omega (arith, h)
 
 epoch-grows : (cluster : Cluster) (e : Entry) (es : List Entry) (a : ℕ) → IsAllowed cluster (e ∷ es) → epoch_of (facts_of es a) ≤ epoch_of (facts_of (e ∷ es) a)
@@ -61,6 +62,7 @@ epoch-grows cluster (Added c f) es a legal =
     here (Fact.Promised k lo hi m) legal s h = omega arith
     here (Fact.Voted k v m os off) legal s h = omega arith
     here (Fact.Heard t o) legal s h = omega arith
+    here (Fact.Floor origin era upto) legal s h = omega arith
     here (Fact.Adopted k v it ds) legal s h = omega arith
 
 pub seqs-none : (cluster : Cluster) (es : List Entry) (a n : ℕ) → IsAllowed cluster es → epoch_of (facts_of es a) < n → seqs_begun es a n ≡ 0
@@ -90,6 +92,7 @@ pub keeps-nothing : (cluster : Cluster) (es : List Entry) (a : ℕ) → ((k : Ke
 keeps-nothing cluster es a new h = record {
   manager = record { seq = h; opened = tt; votes = nothing-given cluster es };
   recovery = nothing-given cluster es;
+  told = tt;
   leader = record { fresh = λ k v r g. new k v r; leads = tt };
 }
 

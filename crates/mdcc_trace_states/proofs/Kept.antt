@@ -2,7 +2,7 @@
 use Rattle.std.proofs.Common.{List, None, Option, Some, [], ap, arith, false, inl, inr, length, refl, sym, ℕ, ◌&&◌, ◌++◌, ◌<◌, ◌==◌, ◌||◌, ◌∙◌, ◌∷◌, ◌≡◌, ◌⊎◌}
 use Rattle.std.specs.Prelude.{nat_lt}
 use Rattle.std.specs.Option.{option_or}
-use Rattle.std.proofs.lemmas.Bool.{and_parts, cases_Bool, eqb-false, eqb-true}
+use Rattle.std.proofs.lemmas.Bool.{and_from, and_parts, cases_Bool, eqb-false, eqb-true}
 use Rattle.mdcc_base.specs.declared.identifiers.Ballot.{Ballot}
 use Rattle.mdcc_base.specs.declared.key.Key.{Key}
 use Rattle.mdcc_base.specs.declared.identifiers.TxId.{TxId}
@@ -11,18 +11,19 @@ use Rattle.mdcc_option.specs.declared.cluster.Cluster.{Cluster}
 use Rattle.mdcc_option.specs.declared.choices.Mark.{Mark}
 use Rattle.mdcc_struct.specs.Maps.{value_of}
 use Rattle.mdcc_messages.specs.declared.facts.Fact.{Fact}
-use Rattle.mdcc_protocol.specs.Facts.{epoch_of, marks_voted, votes_of}
+use Rattle.mdcc_protocol.specs.Facts.{are_heard, epoch_of, heard_of, is_heard, marks_voted, outcome_in, votes_of}
+use Rattle.std.proofs.Common.{is_some, suc, true, zero}
 use Rattle.mdcc_ledger.specs.Ledger.{Added, Entry, Valued, choices_begun, facts_of, mark_given}
 use Rattle.mdcc_ledger.specs.AllowedLedgers.{IsAllowed, seqs_begun}
 use Rattle.mdcc_ledger.specs.BootTest.{is_allowed_kind}
 use Rattle.mdcc_ledger.specs.AllowedFacts.{is_booted}
 use Rattle.mdcc_protocol.specs.Belongs.{fact_belongs}
-use Rattle.mdcc_protocol.specs.Volatile.{Managing, Undecided, Volatile}
+use Rattle.mdcc_protocol.specs.Volatile.{Managing, Marked, Undecided, Volatile}
 use Rattle.mdcc_protocol.specs.declared.votes.Vote.{Vote}
 use Rattle.mdcc_simulation.specs.State.{Site}
 use Rattle.mdcc_messages.specs.declared.messages.Envelope.{Envelope}
 use Rattle.mdcc_trace_states.specs.Words.{Each}
-use Rattle.mdcc_trace_states.specs.VolatileInvariant.{ArePlaced, AreVotes, IsCentre, IsGiven, IsOpened, IsPlaced, Keeps, Manages}
+use Rattle.mdcc_trace_states.specs.VolatileInvariant.{ArePlaced, AreVotes, IsCentre, IsGiven, IsOpened, IsPlaced, IsTold, Keeps, Manages}
 use Rattle.mdcc_trace_states.specs.Invariant.{IsOf}
 use Rattle.mdcc_trace_states.specs.MessageMeaning.{TrueWhenSent}
 use Rattle.mdcc_trace_states.proofs.Lists.{Each-like, IsTail-more}
@@ -55,16 +56,43 @@ Manages-more cluster e es a m legal quiet h = record {
   votes = AreVotes-more cluster e es m.votes h.votes;
 }
 
+-- what was heard stays heard
+heard-kept : (f : Fact) (fs : List Fact) (t : TxId) → is_heard fs t ≡ true → is_heard (f ∷ fs) t ≡ true
+heard-kept f fs t h = first_kept (heard_of fs t) (outcome_in t f) h
+  where
+    first_kept : {X : Type 0} (a b : Option X) → is_some a ≡ true → is_some (option_or a b) ≡ true
+    first_kept None b g = absurd (cc)
+    first_kept (Some x) b g = refl
+
+pub are-heard-kept : (f : Fact) (fs : List Fact) (centre epoch seq : ℕ) → are_heard fs centre epoch seq ≡ true → are_heard (f ∷ fs) centre epoch seq ≡ true
+are-heard-kept f fs centre epoch zero h = refl
+are-heard-kept f fs centre epoch (suc n) h =
+    let parts : (is_heard fs (record { centre = centre; epoch = epoch; seq = suc n }) ≡ true) × (are_heard fs centre epoch n ≡ true) = and_parts _ _ h in
+    and_from (is_heard (f ∷ fs) (record { centre = centre; epoch = epoch; seq = suc n })) (are_heard (f ∷ fs) centre epoch n)
+    (heard-kept f fs (record { centre = centre; epoch = epoch; seq = suc n }) parts.0) (are-heard-kept f fs centre epoch n parts.1)
+
+pub are-heard-more : (e : Entry) (es : List Entry) (a centre epoch seq : ℕ) → are_heard (facts_of es a) centre epoch seq ≡ true → are_heard (facts_of (e ∷ es) a) centre epoch seq ≡ true
+are-heard-more (Added b f) es a centre epoch seq h =
+    elim (cases_Bool (b == a)) [ inl e ↦ rw e (are-heard-kept f (facts_of es a) centre epoch seq h) | inr e ↦ rw e h ]
+are-heard-more (Entry.Begun b t cs) es a centre epoch seq h = h
+are-heard-more (Valued b k v m os) es a centre epoch seq h = h
+
+pub told-more : (cluster : Cluster) (e : Entry) (es : List Entry) (ms : List Marked) → Each (IsTold cluster es) ms → Each (IsTold cluster (e ∷ es)) ms
+told-more cluster e es ms h =
+    Each-like (IsTold cluster es) (IsTold cluster (e ∷ es)) ms (λ m g. record { centre = g.centre; heard = are-heard-more e es m.from m.centre m.epoch m.seq g.heard }) h
+
 pub Keeps-more : (cluster : Cluster) (e : Entry) (es : List Entry) (a : ℕ) (v : Volatile) → IsAllowed cluster (e ∷ es) → IsQuiet a e es → Keeps cluster es a v → Keeps cluster (e ∷ es) a v
 Keeps-more cluster e es a v legal quiet h = record {
   manager = Manages-more cluster e es a v.manager legal quiet.seq h.manager;
   recovery = AreVotes-more cluster e es v.recovery.votes h.recovery;
+  told = told-more cluster e es v.told h.told;
   leader = Leads-more cluster e es a v.leader legal quiet.still h.leader;
 }
 
 -- a fact that is no boot leaves the epoch
 pub epoch-same : (f : Fact) (fs : List Fact) → is_booted f ≡ false → epoch_of (f ∷ fs) ≡ epoch_of fs
 epoch-same (Fact.Booted n) fs h = absurd (cc)
+epoch-same (Fact.Floor origin era upto) fs h = refl
 epoch-same (Fact.Promised k lo hi m) fs h = refl
 epoch-same (Fact.Voted k v m os off) fs h = refl
 epoch-same (Fact.Heard t o) fs h = refl
@@ -107,6 +135,7 @@ epoch-above cluster (Added c f) es a legal h =
   where
     above : (f : Fact) → IsAllowed cluster (Added c f ∷ es) → 0 < epoch_of (f ∷ facts_of es a)
     above (Fact.Booted n) legal = booted-above cluster es c n legal
+    above (Fact.Floor origin era upto) legal = h
     above (Fact.Promised k lo hi m) legal = h
     above (Fact.Voted k v m os off) legal = h
     above (Fact.Heard t o) legal = h

@@ -16,7 +16,7 @@ use Rattle.mdcc_simulation.specs.Clients.{answer_in, begin_lines, after_begin, b
 use Rattle.mdcc_simulation.specs.Limits.{passed_cells_limit, input_applied, passed_log_limit, most_events, step_limit}
 use Rattle.mdcc_simulation.specs.Events.{after_event, happened_of, is_deliver}
 use Rattle.mdcc_simulation.specs.AppliedSteps.{input_happened, step_at}
-use Rattle.mdcc_simulation.specs.Centres.{restart_happened, after_restart, tick_line, after_tick}
+use Rattle.mdcc_simulation.specs.Centres.{restart_happened, after_restart, sweep_line, tick_line, after_sweep, after_tick}
 use Rattle.mdcc_simulation.specs.Runs.{run_from, run_of}
 use Rattle.mdcc_simulation.specs.Deliveries.{settled_of}
 use Rattle.mdcc_trace_states.specs.Invariant.{Holds}
@@ -67,6 +67,7 @@ module _ (also : List Entry → Type 0) (cluster : Cluster) (good : AreGood also
       settled-line also cluster (settled_of (most_events - w.events) listed (record { world = w; lines = Line.Settle listed ∷ [] }) 0)
       (settled-holds also cluster good (most_events - w.events) listed (record { world = w; lines = Line.Settle listed ∷ [] }) 0 h)
   happened-holds w (Event.Tick a) h = up-holds also cluster w a (after_tick w a) (λ up. lines-hold also cluster (tick_line a) (input_applied w a Input.Tick) (limited-holds w a Input.Tick h up tt))
+  happened-holds w (Event.Sweep a) h = up-holds also cluster w a (after_sweep w a) (λ up. lines-hold also cluster (sweep_line a) (input_applied w a Input.Sweep) (limited-holds w a Input.Sweep h up tt))
   happened-holds w (Event.Crash a) h = up-holds also cluster w a _ (λ up. down-holds also cluster w a (centre_at w a).tail [] h (is-up also cluster w a h up).centre tt h.legal h.placed h.more)
   happened-holds w (Event.Restart a) h =
       elim (cases_Bool (is_up_at w a)) [

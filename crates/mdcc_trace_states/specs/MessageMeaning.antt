@@ -1,8 +1,8 @@
 -- What each message that was sent tells of the ledger.
-use Rattle.std.specs.Prelude.{List, Some, false, map, true, ℕ, ⊤, ◌≡◌, ◌≤◌}
+use Rattle.std.specs.Prelude.{List, Some, false, map, true, ℕ, ⊤, ◌<◌, ◌≡◌, ◌≤◌}
 use Rattle.mdcc_base.specs.Ballot.{is_fast}
 use Rattle.mdcc_option.specs.declared.cluster.Cluster.{Cluster}
-use Rattle.mdcc_protocol.specs.Facts.{base_of, current_of, executed_of, promised_through, report_of}
+use Rattle.mdcc_protocol.specs.Facts.{are_heard, is_finished, base_of, current_of, executed_of, promised_through, report_of}
 use Rattle.mdcc_ledger.specs.Ledger.{Entry, facts_of, mark_given, outcome_of}
 use Rattle.mdcc_ledger.specs.AllowedLedgers.{is_valued}
 use Rattle.mdcc_ledger.specs.AllowedStructures.{is_begun}
@@ -38,6 +38,8 @@ Says cluster old a (Message.SyncAsk key) = ⊤
 Says cluster old a (Message.ClientRead serial key) = ⊥
 Says cluster old a (Message.ClientBegin serial parts) = ⊥
 Says cluster old a (Message.ClientAnswer serial answer) = ⊥
+Says cluster old a (Message.Mark centre epoch seq) = (0 < seq) × (are_heard (facts_of old a) centre epoch seq ≡ true)
+Says cluster old a (Message.Finished tx) = is_finished (facts_of old a) tx ≡ true
 
 -- a message came from a centre, and told something true of the ledger as it was at some time
 pub record TrueWhenSent (cluster : Cluster) (es : List Entry) (envelope : Envelope) : Type 0 where
@@ -46,9 +48,10 @@ pub record TrueWhenSent (cluster : Cluster) (es : List Entry) (envelope : Envelo
   pub tail : IsTail old es
   pub says : Says cluster old envelope.from envelope.message
 
--- what a message tells stays so in every later ledger, but for data, which are overtaken
+-- what a message tells stays so in every later ledger, but for data, which are overtaken, and for reports, of which marks are forgotten
 abbrev pub IsLasting : Message → Type 0
 IsLasting (Message.SyncGive key version item adds) = ⊥
+IsLasting (Message.Promise key version through ballot reported votes) = ⊥
 IsLasting _ = ⊤
 
 -- a message told the truth when it was sent, and it still does where that lasts; and it is of the cluster, so that no node

@@ -25,10 +25,11 @@ pub record IsTransaction (schema : Schema) (ps : List Part) : Type 0 where
   pub ascending : are_ascending ps ≡ true
   pub again : transaction_of schema ps ≡ Ok ps
 
--- what a node is given: a message that stands, parts that make a transaction, a tick, or a key to read
+-- what a node is given: a message that stands, parts that make a transaction, a tick, a sweep, or a key to read
 abbrev pub IsFair : Cluster → List Entry → Input → Type 0
 IsFair cluster es (Input.Message envelope) = TrueWhenSent cluster es envelope
 IsFair cluster es Input.Tick = ⊤
+IsFair cluster es Input.Sweep = ⊤
 IsFair cluster es (Input.Begin parts) = IsTransaction cluster.schema parts
 IsFair cluster es (Input.Read key) = ⊤
 

@@ -9,15 +9,14 @@ use Rattle.mdcc_base.specs.TxId.{tx_eq}
 use Rattle.mdcc_option.specs.declared.choices.Choice.{Choice}
 use Rattle.mdcc_option.specs.declared.cluster.Cluster.{Cluster}
 use Rattle.mdcc_option.specs.declared.choices.Mark.{Mark}
-use Rattle.mdcc_struct.specs.declared.options.Options.{Options}
-use Rattle.mdcc_protocol.specs.Facts.{current_of, epoch_of, promised_through, report_of}
+use Rattle.mdcc_protocol.specs.Facts.{are_heard, current_of, epoch_of, promised_through, report_of}
 use Rattle.mdcc_protocol.specs.Fit.{parts_of}
 use Rattle.mdcc_protocol.specs.Leader.{has_proposed}
 use Rattle.mdcc_ledger.specs.Ledger.{Entry, choices_begun, facts_of, mark_given, structure_valued}
 use Rattle.mdcc_ledger.specs.AllowedLedgers.{seqs_begun}
 use Rattle.mdcc_ledger.specs.AllowedStructures.{are_distinct}
 use Rattle.mdcc_protocol.specs.Belongs.{is_centre, mark_belongs, tx_belongs}
-use Rattle.mdcc_protocol.specs.Volatile.{Counted, Lead, Leading, Managing, Undecided, Volatile, number_at, structure_found}
+use Rattle.mdcc_protocol.specs.Volatile.{Marked, Counted, Lead, Leading, Managing, Undecided, Volatile, number_at, structure_found}
 use Rattle.mdcc_protocol.specs.declared.votes.Vote.{Vote}
 use Rattle.mdcc_simulation.specs.State.{Site}
 use Rattle.mdcc_trace_states.specs.Words.{Each, In, IsTail}
@@ -116,11 +115,17 @@ pub record Leads (cluster : Cluster) (es : List Entry) (a : ℕ) (leader : Leadi
       structure_valued es key version (record { round = round; epoch = epoch_of (facts_of es a); centre = a }) ≡ None
   pub leads : Each (IsLead cluster es a leader.last_rounds) leader.leads
 
--- all that a centre keeps: its manager, the votes of its recovery, and its leader
+-- a mark that is remembered: a centre of the cluster has heard so far
+pub record IsTold (cluster : Cluster) (es : List Entry) (mark : Marked) : Type 0 where
+  pub centre : is_centre cluster mark.from ≡ true
+  pub heard : are_heard (facts_of es mark.from) mark.centre mark.epoch mark.seq ≡ true
+
+-- all that a centre keeps: its manager, the votes of its recovery, its leader, and what it was told of floors
 pub record Keeps (cluster : Cluster) (es : List Entry) (a : ℕ) (volatile : Volatile) : Type 0 where
   pub manager : Manages cluster es a volatile.manager
   pub recovery : AreVotes cluster es volatile.recovery.votes
   pub leader : Leads cluster es a volatile.leader
+  pub told : Each (IsTold cluster es) volatile.told
 
 -- a centre has booted, and where it is up, what it keeps is as above
 pub record IsCentre (cluster : Cluster) (es : List Entry) (a : ℕ) (centre : Site) : Type 0 where

@@ -8,11 +8,12 @@ use mdcc_facts::FactStore;
 use mdcc_messages::Fact;
 use mdcc_option::Outcome;
 
-/// The fact of an outcome; there is none where the transaction's was heard before. It adds no fact.
+/// The fact of an outcome; there is none where the transaction's was heard before, or all centres
+/// have heard one. It adds no fact.
 pub fn on_outcome<S: FactStore>(store: &S, tx: TxId, outcome: &Outcome) -> Option<Fact>
     ensures { (facts : List AFact) → S.stands store.now facts → result ≡ on_outcome facts tx outcome.now }
 {
-    if store.is_heard(tx) {
+    if store.is_settled(tx) {
         None
     } else {
         Some(Fact::Heard {

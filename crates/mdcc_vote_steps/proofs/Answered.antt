@@ -23,6 +23,7 @@ use Rattle.mdcc_vote_steps.proofs.Marked.{choice-of, encoding, head_itself, mark
 mark-by : (key : List ℕ) (version : ℕ) (ballot : Ballot) (tx : TxId) (fact : Fact) → IsWellFormedFact fact
     → mark_by ballot tx (fact_bytes fact) (head_from key version fact) ≡ value_of (marks_voted key version ballot fact) tx
 mark-by key version ballot tx (Fact.Booted epoch) w = refl
+mark-by key version ballot tx (Fact.Floor origin era upto) w = refl
 mark-by key version ballot tx (Fact.Promised k low high b) w = refl
 mark-by key version ballot tx (Fact.Heard t outcome) w = refl
 mark-by key version ballot tx (Fact.Adopted k v item adds) w = refl
@@ -61,6 +62,7 @@ newer (Some vote) ballot (Some mark) = by (ballot_lt ballot vote.0)
 vote-by : (key : List ℕ) (version : ℕ) (tx : TxId) (later : Option (Ballot × Mark)) (fact : Fact) → IsWellFormedFact fact
     → option_or (vote_by tx later (fact_bytes fact) (head_from key version fact)) later ≡ later_vote (mark_voted key version tx fact) later
 vote-by key version tx later (Fact.Booted epoch) w = refl
+vote-by key version tx later (Fact.Floor origin era upto) w = refl
 vote-by key version tx later (Fact.Promised k low high b) w = refl
 vote-by key version tx later (Fact.Heard t outcome) w = refl
 vote-by key version tx later (Fact.Adopted k v item adds) w = refl
@@ -84,6 +86,7 @@ vote-in-again key version tx later fact w =
 choice-by : (key : List ℕ) (version : ℕ) (tx : TxId) (fact : Fact) → IsWellFormedFact fact
     → choice_by tx (fact_bytes fact) (head_from key version fact) ≡ choice_voted key version tx fact
 choice-by key version tx (Fact.Booted epoch) w = refl
+choice-by key version tx (Fact.Floor origin era upto) w = refl
 choice-by key version tx (Fact.Promised k low high b) w = refl
 choice-by key version tx (Fact.Heard t outcome) w = refl
 choice-by key version tx (Fact.Adopted k v item adds) w = refl

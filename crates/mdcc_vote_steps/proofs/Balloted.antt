@@ -28,6 +28,7 @@ voted-of key version below (facts.Voted k v ballot options offered) = by (v == v
     by false same_key lower is = refl
 voted-of key version below (facts.Promised k low high ballot) = refl
 voted-of key version below (facts.Booted epoch) = refl
+voted-of key version below (facts.Floor origin era upto) = refl
 voted-of key version below (facts.Heard tx outcome) = refl
 voted-of key version below (facts.Adopted k v item adds) = refl
 

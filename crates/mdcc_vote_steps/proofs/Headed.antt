@@ -96,6 +96,7 @@ no-vote key version n rest small other = ap (λ tag. head_of key version (tag >>
 pub head-again : (key : List ℕ) (version : ℕ) (fact : Fact) → IsWellFormedFact fact → head_in key version (fact_bytes fact) ≡ head_from key version fact
 head-again key version (facts.Voted k v ballot options offered) w = ap (head_of key version) (vote-again k v ballot options offered w)
 head-again key version (facts.Booted epoch) w = no-vote key version 1 (drop 1 (fact_bytes (facts.Booted epoch))) (omega arith) refl
+head-again key version (facts.Floor origin era upto) w = no-vote key version 6 (drop 1 (fact_bytes (facts.Floor origin era upto))) (omega arith) refl
 head-again key version (facts.Promised k low high ballot) w = no-vote key version 2 (drop 1 (fact_bytes (facts.Promised k low high ballot))) (omega arith) refl
 head-again key version (facts.Heard tx outcome) w = no-vote key version 4 (drop 1 (fact_bytes (facts.Heard tx outcome))) (omega arith) refl
 head-again key version (facts.Adopted k v item adds) w = no-vote key version 5 (drop 1 (fact_bytes (facts.Adopted k v item adds))) (omega arith) refl
@@ -112,6 +113,7 @@ no-head n rest small other = ap (λ tag. any_head (tag >>= vote_after (take 64 (
 pub any-head-again : (fact : Fact) → IsWellFormedFact fact → head_any (fact_bytes fact) ≡ any_head_from fact
 any-head-again (facts.Voted k v ballot options offered) w = ap any_head (vote-again k v ballot options offered w)
 any-head-again (facts.Booted epoch) w = no-head 1 (drop 1 (fact_bytes (facts.Booted epoch))) (omega arith) refl
+any-head-again (facts.Floor origin era upto) w = no-head 6 (drop 1 (fact_bytes (facts.Floor origin era upto))) (omega arith) refl
 any-head-again (facts.Promised k low high ballot) w = no-head 2 (drop 1 (fact_bytes (facts.Promised k low high ballot))) (omega arith) refl
 any-head-again (facts.Heard tx outcome) w = no-head 4 (drop 1 (fact_bytes (facts.Heard tx outcome))) (omega arith) refl
 any-head-again (facts.Adopted k v item adds) w = no-head 5 (drop 1 (fact_bytes (facts.Adopted k v item adds))) (omega arith) refl

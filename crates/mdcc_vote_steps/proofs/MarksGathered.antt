@@ -67,6 +67,7 @@ read-again key version (e ∷ es) rest w =
 marks-by : (key : List ℕ) (version : ℕ) (ballot : Ballot) (fact : Fact) → IsWellFormedFact fact
     → marks_by ballot (fact_bytes fact) (head_from key version fact) ≡ marks_voted key version ballot fact
 marks-by key version ballot (Fact.Booted epoch) w = refl
+marks-by key version ballot (Fact.Floor origin era upto) w = refl
 marks-by key version ballot (Fact.Promised k low high b) w = refl
 marks-by key version ballot (Fact.Heard t outcome) w = refl
 marks-by key version ballot (Fact.Adopted k v item adds) w = refl

@@ -25,6 +25,7 @@ use Rattle.mdcc_vote_steps.proofs.Marked.{encoding, head_itself, tag_of, tags-of
 tags-by : (key : List ℕ) (version : ℕ) (ballot : Ballot) (fact : Fact) → IsWellFormedFact fact
     → tags_by ballot (fact_bytes fact) (head_from key version fact) ≡ map tag_of (marks_voted key version ballot fact)
 tags-by key version ballot (Fact.Booted epoch) w = refl
+tags-by key version ballot (Fact.Floor origin era upto) w = refl
 tags-by key version ballot (Fact.Promised k low high b) w = refl
 tags-by key version ballot (Fact.Heard t outcome) w = refl
 tags-by key version ballot (Fact.Adopted k v item adds) w = refl
@@ -59,6 +60,7 @@ number-common options marks up up' = number-of-tags (λ tx. is_some (value_of op
 
 pub marks-ascend : (key : List ℕ) (version : ℕ) (ballot : Ballot) (fact : Fact) → IsWellFormedFact fact → are_ascending (marks_voted key version ballot fact) ≡ true
 marks-ascend key version ballot (Fact.Booted epoch) w = refl
+marks-ascend key version ballot (Fact.Floor origin era upto) w = refl
 marks-ascend key version ballot (Fact.Promised k low high b) w = refl
 marks-ascend key version ballot (Fact.Heard t outcome) w = refl
 marks-ascend key version ballot (Fact.Adopted k v item adds) w = refl

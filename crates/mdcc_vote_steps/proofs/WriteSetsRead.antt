@@ -75,6 +75,7 @@ sets-of tx key version ballot options (Some choice) up =
 
 set-by : (tx : TxId) (fact : Fact) → IsWellFormedFact fact → option_map write_set_of (choice_by tx (fact_bytes fact) (any_head_from fact)) ≡ value_of (write_sets_from fact) tx
 set-by tx (Fact.Booted epoch) w = refl
+set-by tx (Fact.Floor origin era upto) w = refl
 set-by tx (Fact.Promised k low high b) w = refl
 set-by tx (Fact.Heard t outcome) w = refl
 set-by tx (Fact.Adopted k v item adds) w = refl

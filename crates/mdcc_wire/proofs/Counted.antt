@@ -21,3 +21,5 @@ has_counts (messages.SyncGive key version item adds) w = omega (arith, w.few)
 has_counts (messages.ClientRead serial key) w = tt
 has_counts (messages.ClientBegin serial parts) w = tt
 has_counts (messages.ClientAnswer serial answer) w = tt
+has_counts (messages.Mark centre epoch seq) w = tt
+has_counts (messages.Finished tx) w = tt

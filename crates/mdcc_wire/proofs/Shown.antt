@@ -13,7 +13,7 @@ use Rattle.mdcc_base.specs.declared.identifiers.Ballot.{Ballot}
 use Rattle.mdcc_struct.specs.Options.{Marks}
 use Rattle.mdcc_messages.specs.ReadingParts.{key_at, tx_at, ballot_at, classic_at, part_behind, choice_at, entry_at, options_at, cause_at}
 use Rattle.mdcc_messages.specs.ReadingAnswers.{answer_at}
-use Rattle.mdcc_messages.specs.Reading.{instance_at, at_least, heard_at, given_at, known, endpoint, propose_at, voted_at, escalate_at, lead_at, prepare_at, promise_at, accept_at, refused_at, ended_at, ask_at, sync_ask_at, sync_give_at, client_read_at, client_begin_at, client_answer_at, body_at, whole, view_of}
+use Rattle.mdcc_messages.specs.Reading.{instance_at, at_least, heard_at, given_at, known, known_in, endpoint, propose_at, voted_at, escalate_at, lead_at, prepare_at, promise_at, accept_at, refused_at, ended_at, ask_at, sync_ask_at, sync_give_at, client_read_at, client_begin_at, client_answer_at, numbers_at, mark_at, finished_at, body_at, whole, view_of}
 use Rattle.mdcc_messages.specs.Spelling.{kind_of}
 use Rattle.mdcc_parts.specs.Reads.{end_of}
 use Rattle.mdcc_wire.specs.Marks.{votes_place, options_place, promise_marks, accept_marks, marks_by}
@@ -64,7 +64,7 @@ abbrev after_kind : List ℕ → ℕ × ℕ → Result Envelope WireFault
 after_kind bytes kind = checked (endpoint kind.1) (u8_at bytes kind.1) >>= λ from. after_from bytes kind.0 from
 
 abbrev after_format : List ℕ → ℕ × ℕ → Result Envelope WireFault
-after_format bytes format = checked (known 15) (u8_at bytes format.1) >>= λ kind. after_kind bytes kind
+after_format bytes format = checked (known_in format.0) (u8_at bytes format.1) >>= λ kind. after_kind bytes kind
 
 whole_is : (bytes : List ℕ) (x : Envelope × ℕ) (e : Envelope) → whole bytes x ≡ Ok e → (x.0 ≡ e) × (x.1 ≡ length bytes)
 whole_is bytes x e h =
@@ -75,35 +75,59 @@ whole_is bytes x e h =
     turned true x e fault h = (refl, ok_is x e h)
     turned false x e fault h = absurd cc
 
+known_is : (lowest highest n : ℕ) → known lowest highest n ≡ None → IsInRange lowest highest n
+known_is lowest highest n h =
+    let range = and_parts (nat_le lowest n) (nat_le n highest) (none_found (is_in_range lowest highest n) Kind h) in
+    (leb-true lowest n range.0, leb-true n highest range.1)
+
+-- a kind that a format has
+kind_in_range : (format kind : ℕ) → known_in format kind ≡ None → IsInRange 1 17 kind
+kind_in_range format kind h = turned (format == 1) h
+  where
+    turned : (b : Bool) → cond b (known 1 15 kind) (known 16 17 kind) ≡ None → IsInRange 1 17 kind
+    turned true h = let r = known_is 1 15 kind h in (r.0, omega (arith, r.1))
+    turned false h = let r = known_is 16 17 kind h in (omega (arith, r.0), r.1)
+
 -- the kind stands at 1, and the body at 4
 pub record IsMessage (bytes : List ℕ) (e : Envelope) : Type 0 where
   pub kind : ℕ
   pub kind_at : u8_at bytes 1 ≡ Ok (kind, 2)
-  pub known_kind : IsInRange 1 15 kind
+  pub known_kind : IsInRange 1 17 kind
   pub body : body_at kind bytes 4 ≡ Ok (e.message, length bytes)
+
+-- the same at places that are known by other names
+u8_next : (bytes : List ℕ) (at n : ℕ) (x : ℕ × ℕ) → at ≡ n → u8_at bytes at ≡ Ok x → x.1 ≡ n + 1
+u8_next bytes at n x place h = u8_after bytes at x h ∙ ap (λ k. k + 1) place
+
+kind_stands : (bytes : List ℕ) (at after kind : ℕ) → at ≡ 1 → after ≡ 2 → u8_at bytes at ≡ Ok (kind, after) → u8_at bytes 1 ≡ Ok (kind, 2)
+kind_stands bytes at after kind one two h = ap (u8_at bytes) (sym one) ∙ h ∙ ap (λ n. done (kind, n)) two
+
+body_stands : (bytes : List ℕ) (kind at end : ℕ) (made e : Envelope) → at ≡ 4 → made ≡ e → end ≡ length bytes
+    → body_at kind bytes at ≡ Ok (made.message, end) → body_at kind bytes 4 ≡ Ok (e.message, length bytes)
+body_stands bytes kind at end made e four same whole h =
+    ap (body_at kind bytes) (sym four) ∙ h ∙ ap (λ (x : Envelope). done (x.message, end)) same ∙ ap (λ n. done (e.message, n)) whole
 
 pub is_message : (bytes : List ℕ) (e : Envelope) → view_of bytes ≡ Ok e → IsMessage bytes e
 is_message bytes e h =
-    let a = bind_ok (checked (known 1) (u8_at bytes 0)) (after_format bytes) e h in
-    let a' = checked_ok (known 1) (u8_at bytes 0) a.0 a.1 in
+    let a = bind_ok (checked (known 1 2) (u8_at bytes 0)) (after_format bytes) e h in
+    let a' = checked_ok (known 1 2) (u8_at bytes 0) a.0 a.1 in
     let one : a.0.1 ≡ 1 = u8_after bytes 0 a.0 a'.1 in
-    let b = bind_ok (checked (known 15) (u8_at bytes a.0.1)) (after_kind bytes) e a.2 in
-    let b' = checked_ok (known 15) (u8_at bytes a.0.1) b.0 b.1 in
-    let two : b.0.1 ≡ 2 = u8_after bytes a.0.1 b.0 b'.1 ∙ ap (λ n. n + 1) one in
+    let b = bind_ok (checked (known_in a.0.0) (u8_at bytes a.0.1)) (after_kind bytes) e a.2 in
+    let b' = checked_ok (known_in a.0.0) (u8_at bytes a.0.1) b.0 b.1 in
+    let two : b.0.1 ≡ 2 = u8_next bytes a.0.1 1 b.0 one b'.1 in
     let c = bind_ok (checked (endpoint b.0.1) (u8_at bytes b.0.1)) (after_from bytes b.0.0) e b.2 in
     let c' = checked_ok (endpoint b.0.1) (u8_at bytes b.0.1) c.0 c.1 in
-    let three : c.0.1 ≡ 3 = u8_after bytes b.0.1 c.0 c'.1 ∙ ap (λ n. n + 1) two in
+    let three : c.0.1 ≡ 3 = u8_next bytes b.0.1 2 c.0 two c'.1 in
     let d = bind_ok (checked (endpoint c.0.1) (u8_at bytes c.0.1)) (after_to bytes b.0.0 c.0.0) e c.2 in
     let d' = checked_ok (endpoint c.0.1) (u8_at bytes c.0.1) d.0 d.1 in
-    let four : d.0.1 ≡ 4 = u8_after bytes c.0.1 d.0 d'.1 ∙ ap (λ n. n + 1) three in
+    let four : d.0.1 ≡ 4 = u8_next bytes c.0.1 3 d.0 three d'.1 in
     let m = bind_ok (body_at b.0.0 bytes d.0.1) (λ message. whole bytes (record { from = c.0.0; to = d.0.0; message = message.0 }, message.1)) e d.2 in
     let w = whole_is bytes (record { from = c.0.0; to = d.0.0; message = m.0.0 }, m.0.1) e m.2 in
-    let range = and_parts (nat_le 1 b.0.0) (nat_le b.0.0 15) (none_found (is_in_range 1 15 b.0.0) Kind b'.0) in
     record {
       kind = b.0.0;
-      kind_at = ap (u8_at bytes) (sym one) ∙ b'.1 ∙ ap (λ n. done (b.0.0, n)) two;
-      known_kind = (leb-true 1 b.0.0 range.0, leb-true b.0.0 15 range.1);
-      body = ap (body_at b.0.0 bytes) (sym four) ∙ m.1 ∙ ap (λ x. done (x.message, m.0.1)) w.0 ∙ ap (λ n. done (e.message, n)) w.1;
+      kind_at = kind_stands bytes a.0.1 b.0.1 b.0.0 one two b'.1;
+      known_kind = kind_in_range a.0.0 b.0.0 b'.0;
+      body = body_stands bytes b.0.0 d.0.1 m.0.1 (record { from = c.0.0; to = d.0.0; message = m.0.0 }) e four w.0 w.1 m.1;
     }
 
 -- ---- where structures stand
@@ -220,24 +244,35 @@ module _ (bytes : List ℕ) (at : ℕ) where
   client_answer_shows : Shows 15 bytes at (client_answer_at bytes at)
   client_answer_shows = then 15 (u32_at bytes at) (λ serial. answer_at bytes serial.1 >>= λ answer. done (messages.ClientAnswer serial.0 answer.0, answer.1)) (λ serial. then 15 (answer_at bytes serial.1) (λ answer. done (messages.ClientAnswer serial.0 answer.0, answer.1)) (λ answer. (refl, refl, refl)))
 
-  body_shows : (kind : ℕ) → IsInRange 1 15 kind → Shows kind bytes at (body_at kind bytes at)
+  mark_shows : Shows 16 bytes at (mark_at bytes at)
+  mark_shows = then 16 (numbers_at bytes at) (λ numbers. done (messages.Mark numbers.0.0 numbers.0.1 numbers.0.2, numbers.1)) (λ numbers. (refl, refl, refl))
+
+  finished_shows : Shows 17 bytes at (finished_at bytes at)
+  finished_shows = then 17 (tx_at bytes at) (λ tx. done (messages.Finished tx.0, tx.1)) (λ tx. (refl, refl, refl))
+
+  abbrev bodies_from_15 : ℕ → Result (Message × ℕ) WireFault
+  bodies_from_15 kind = cond (kind == 15) (client_answer_at bytes at) (cond (kind == 16) (mark_at bytes at) (finished_at bytes at))
+
+  body_shows : (kind : ℕ) → IsInRange 1 17 kind → Shows kind bytes at (body_at kind bytes at)
   body_shows kind range =
-      choose kind 1 (propose_at bytes at) (cond (kind == 2) (voted_at bytes at) (cond (kind == 3) (escalate_at bytes at) (cond (kind == 4) (lead_at bytes at) (cond (kind == 5) (prepare_at bytes at) (cond (kind == 6) (promise_at bytes at) (cond (kind == 7) (accept_at bytes at) (cond (kind == 8) (refused_at bytes at) (cond (kind == 9) (ended_at bytes at) (cond (kind == 10) (ask_at bytes at) (cond (kind == 11) (sync_ask_at bytes at) (cond (kind == 12) (sync_give_at bytes at) (cond (kind == 13) (client_read_at bytes at) (cond (kind == 14) (client_begin_at bytes at) (client_answer_at bytes at)))))))))))))) range.0 propose_shows (λ n1.
-      choose kind 2 (voted_at bytes at) (cond (kind == 3) (escalate_at bytes at) (cond (kind == 4) (lead_at bytes at) (cond (kind == 5) (prepare_at bytes at) (cond (kind == 6) (promise_at bytes at) (cond (kind == 7) (accept_at bytes at) (cond (kind == 8) (refused_at bytes at) (cond (kind == 9) (ended_at bytes at) (cond (kind == 10) (ask_at bytes at) (cond (kind == 11) (sync_ask_at bytes at) (cond (kind == 12) (sync_give_at bytes at) (cond (kind == 13) (client_read_at bytes at) (cond (kind == 14) (client_begin_at bytes at) (client_answer_at bytes at))))))))))))) n1 voted_shows (λ n2.
-      choose kind 3 (escalate_at bytes at) (cond (kind == 4) (lead_at bytes at) (cond (kind == 5) (prepare_at bytes at) (cond (kind == 6) (promise_at bytes at) (cond (kind == 7) (accept_at bytes at) (cond (kind == 8) (refused_at bytes at) (cond (kind == 9) (ended_at bytes at) (cond (kind == 10) (ask_at bytes at) (cond (kind == 11) (sync_ask_at bytes at) (cond (kind == 12) (sync_give_at bytes at) (cond (kind == 13) (client_read_at bytes at) (cond (kind == 14) (client_begin_at bytes at) (client_answer_at bytes at)))))))))))) n2 escalate_shows (λ n3.
-      choose kind 4 (lead_at bytes at) (cond (kind == 5) (prepare_at bytes at) (cond (kind == 6) (promise_at bytes at) (cond (kind == 7) (accept_at bytes at) (cond (kind == 8) (refused_at bytes at) (cond (kind == 9) (ended_at bytes at) (cond (kind == 10) (ask_at bytes at) (cond (kind == 11) (sync_ask_at bytes at) (cond (kind == 12) (sync_give_at bytes at) (cond (kind == 13) (client_read_at bytes at) (cond (kind == 14) (client_begin_at bytes at) (client_answer_at bytes at))))))))))) n3 lead_shows (λ n4.
-      choose kind 5 (prepare_at bytes at) (cond (kind == 6) (promise_at bytes at) (cond (kind == 7) (accept_at bytes at) (cond (kind == 8) (refused_at bytes at) (cond (kind == 9) (ended_at bytes at) (cond (kind == 10) (ask_at bytes at) (cond (kind == 11) (sync_ask_at bytes at) (cond (kind == 12) (sync_give_at bytes at) (cond (kind == 13) (client_read_at bytes at) (cond (kind == 14) (client_begin_at bytes at) (client_answer_at bytes at)))))))))) n4 prepare_shows (λ n5.
-      choose kind 6 (promise_at bytes at) (cond (kind == 7) (accept_at bytes at) (cond (kind == 8) (refused_at bytes at) (cond (kind == 9) (ended_at bytes at) (cond (kind == 10) (ask_at bytes at) (cond (kind == 11) (sync_ask_at bytes at) (cond (kind == 12) (sync_give_at bytes at) (cond (kind == 13) (client_read_at bytes at) (cond (kind == 14) (client_begin_at bytes at) (client_answer_at bytes at))))))))) n5 promise_shows (λ n6.
-      choose kind 7 (accept_at bytes at) (cond (kind == 8) (refused_at bytes at) (cond (kind == 9) (ended_at bytes at) (cond (kind == 10) (ask_at bytes at) (cond (kind == 11) (sync_ask_at bytes at) (cond (kind == 12) (sync_give_at bytes at) (cond (kind == 13) (client_read_at bytes at) (cond (kind == 14) (client_begin_at bytes at) (client_answer_at bytes at)))))))) n6 accept_shows (λ n7.
-      choose kind 8 (refused_at bytes at) (cond (kind == 9) (ended_at bytes at) (cond (kind == 10) (ask_at bytes at) (cond (kind == 11) (sync_ask_at bytes at) (cond (kind == 12) (sync_give_at bytes at) (cond (kind == 13) (client_read_at bytes at) (cond (kind == 14) (client_begin_at bytes at) (client_answer_at bytes at))))))) n7 refused_shows (λ n8.
-      choose kind 9 (ended_at bytes at) (cond (kind == 10) (ask_at bytes at) (cond (kind == 11) (sync_ask_at bytes at) (cond (kind == 12) (sync_give_at bytes at) (cond (kind == 13) (client_read_at bytes at) (cond (kind == 14) (client_begin_at bytes at) (client_answer_at bytes at)))))) n8 ended_shows (λ n9.
-      choose kind 10 (ask_at bytes at) (cond (kind == 11) (sync_ask_at bytes at) (cond (kind == 12) (sync_give_at bytes at) (cond (kind == 13) (client_read_at bytes at) (cond (kind == 14) (client_begin_at bytes at) (client_answer_at bytes at))))) n9 ask_shows (λ n10.
-      choose kind 11 (sync_ask_at bytes at) (cond (kind == 12) (sync_give_at bytes at) (cond (kind == 13) (client_read_at bytes at) (cond (kind == 14) (client_begin_at bytes at) (client_answer_at bytes at)))) n10 sync_ask_shows (λ n11.
-      choose kind 12 (sync_give_at bytes at) (cond (kind == 13) (client_read_at bytes at) (cond (kind == 14) (client_begin_at bytes at) (client_answer_at bytes at))) n11 sync_give_shows (λ n12.
-      choose kind 13 (client_read_at bytes at) (cond (kind == 14) (client_begin_at bytes at) (client_answer_at bytes at)) n12 client_read_shows (λ n13.
-      choose kind 14 (client_begin_at bytes at) (client_answer_at bytes at) n13 client_begin_shows (λ n14.
-      let last : kind ≡ 15 = omega (arith, n14, range.1) in
-      subst (λ m. Shows m bytes at (client_answer_at bytes at)) (sym last) client_answer_shows))))))))))))))
+      choose kind 1 (propose_at bytes at) (cond (kind == 2) (voted_at bytes at) (cond (kind == 3) (escalate_at bytes at) (cond (kind == 4) (lead_at bytes at) (cond (kind == 5) (prepare_at bytes at) (cond (kind == 6) (promise_at bytes at) (cond (kind == 7) (accept_at bytes at) (cond (kind == 8) (refused_at bytes at) (cond (kind == 9) (ended_at bytes at) (cond (kind == 10) (ask_at bytes at) (cond (kind == 11) (sync_ask_at bytes at) (cond (kind == 12) (sync_give_at bytes at) (cond (kind == 13) (client_read_at bytes at) (cond (kind == 14) (client_begin_at bytes at) (bodies_from_15 kind)))))))))))))) range.0 propose_shows (λ n1.
+      choose kind 2 (voted_at bytes at) (cond (kind == 3) (escalate_at bytes at) (cond (kind == 4) (lead_at bytes at) (cond (kind == 5) (prepare_at bytes at) (cond (kind == 6) (promise_at bytes at) (cond (kind == 7) (accept_at bytes at) (cond (kind == 8) (refused_at bytes at) (cond (kind == 9) (ended_at bytes at) (cond (kind == 10) (ask_at bytes at) (cond (kind == 11) (sync_ask_at bytes at) (cond (kind == 12) (sync_give_at bytes at) (cond (kind == 13) (client_read_at bytes at) (cond (kind == 14) (client_begin_at bytes at) (bodies_from_15 kind))))))))))))) n1 voted_shows (λ n2.
+      choose kind 3 (escalate_at bytes at) (cond (kind == 4) (lead_at bytes at) (cond (kind == 5) (prepare_at bytes at) (cond (kind == 6) (promise_at bytes at) (cond (kind == 7) (accept_at bytes at) (cond (kind == 8) (refused_at bytes at) (cond (kind == 9) (ended_at bytes at) (cond (kind == 10) (ask_at bytes at) (cond (kind == 11) (sync_ask_at bytes at) (cond (kind == 12) (sync_give_at bytes at) (cond (kind == 13) (client_read_at bytes at) (cond (kind == 14) (client_begin_at bytes at) (bodies_from_15 kind)))))))))))) n2 escalate_shows (λ n3.
+      choose kind 4 (lead_at bytes at) (cond (kind == 5) (prepare_at bytes at) (cond (kind == 6) (promise_at bytes at) (cond (kind == 7) (accept_at bytes at) (cond (kind == 8) (refused_at bytes at) (cond (kind == 9) (ended_at bytes at) (cond (kind == 10) (ask_at bytes at) (cond (kind == 11) (sync_ask_at bytes at) (cond (kind == 12) (sync_give_at bytes at) (cond (kind == 13) (client_read_at bytes at) (cond (kind == 14) (client_begin_at bytes at) (bodies_from_15 kind))))))))))) n3 lead_shows (λ n4.
+      choose kind 5 (prepare_at bytes at) (cond (kind == 6) (promise_at bytes at) (cond (kind == 7) (accept_at bytes at) (cond (kind == 8) (refused_at bytes at) (cond (kind == 9) (ended_at bytes at) (cond (kind == 10) (ask_at bytes at) (cond (kind == 11) (sync_ask_at bytes at) (cond (kind == 12) (sync_give_at bytes at) (cond (kind == 13) (client_read_at bytes at) (cond (kind == 14) (client_begin_at bytes at) (bodies_from_15 kind)))))))))) n4 prepare_shows (λ n5.
+      choose kind 6 (promise_at bytes at) (cond (kind == 7) (accept_at bytes at) (cond (kind == 8) (refused_at bytes at) (cond (kind == 9) (ended_at bytes at) (cond (kind == 10) (ask_at bytes at) (cond (kind == 11) (sync_ask_at bytes at) (cond (kind == 12) (sync_give_at bytes at) (cond (kind == 13) (client_read_at bytes at) (cond (kind == 14) (client_begin_at bytes at) (bodies_from_15 kind))))))))) n5 promise_shows (λ n6.
+      choose kind 7 (accept_at bytes at) (cond (kind == 8) (refused_at bytes at) (cond (kind == 9) (ended_at bytes at) (cond (kind == 10) (ask_at bytes at) (cond (kind == 11) (sync_ask_at bytes at) (cond (kind == 12) (sync_give_at bytes at) (cond (kind == 13) (client_read_at bytes at) (cond (kind == 14) (client_begin_at bytes at) (bodies_from_15 kind)))))))) n6 accept_shows (λ n7.
+      choose kind 8 (refused_at bytes at) (cond (kind == 9) (ended_at bytes at) (cond (kind == 10) (ask_at bytes at) (cond (kind == 11) (sync_ask_at bytes at) (cond (kind == 12) (sync_give_at bytes at) (cond (kind == 13) (client_read_at bytes at) (cond (kind == 14) (client_begin_at bytes at) (bodies_from_15 kind))))))) n7 refused_shows (λ n8.
+      choose kind 9 (ended_at bytes at) (cond (kind == 10) (ask_at bytes at) (cond (kind == 11) (sync_ask_at bytes at) (cond (kind == 12) (sync_give_at bytes at) (cond (kind == 13) (client_read_at bytes at) (cond (kind == 14) (client_begin_at bytes at) (bodies_from_15 kind)))))) n8 ended_shows (λ n9.
+      choose kind 10 (ask_at bytes at) (cond (kind == 11) (sync_ask_at bytes at) (cond (kind == 12) (sync_give_at bytes at) (cond (kind == 13) (client_read_at bytes at) (cond (kind == 14) (client_begin_at bytes at) (bodies_from_15 kind))))) n9 ask_shows (λ n10.
+      choose kind 11 (sync_ask_at bytes at) (cond (kind == 12) (sync_give_at bytes at) (cond (kind == 13) (client_read_at bytes at) (cond (kind == 14) (client_begin_at bytes at) (bodies_from_15 kind)))) n10 sync_ask_shows (λ n11.
+      choose kind 12 (sync_give_at bytes at) (cond (kind == 13) (client_read_at bytes at) (cond (kind == 14) (client_begin_at bytes at) (bodies_from_15 kind))) n11 sync_give_shows (λ n12.
+      choose kind 13 (client_read_at bytes at) (cond (kind == 14) (client_begin_at bytes at) (bodies_from_15 kind)) n12 client_read_shows (λ n13.
+      choose kind 14 (client_begin_at bytes at) (bodies_from_15 kind) n13 client_begin_shows (λ n14.
+      choose kind 15 (client_answer_at bytes at) (cond (kind == 16) (mark_at bytes at) (finished_at bytes at)) n14 client_answer_shows (λ n15.
+      choose kind 16 (mark_at bytes at) (finished_at bytes at) n15 mark_shows (λ n16.
+      let last : kind ≡ 17 = omega (arith, n16, range.1) in
+      subst (λ m. Shows m bytes at (finished_at bytes at)) (sym last) finished_shows))))))))))))))))
 
 -- what is found of a message that is read
 pub record IsShown (bytes : List ℕ) (e : Envelope) : Type 0 where
@@ -284,8 +319,8 @@ ends (Err fault) make bytes = refl
 
 passed_is : (bytes : List ℕ) → passed bytes ≡ (view_of bytes >>= λ e. done (tt {0}))
 passed_is bytes =
-    push (checked (known 1) (u8_at bytes 0)) (λ format. checked (known 15) (u8_at bytes format.1) >>= λ kind. checked (endpoint kind.1) (u8_at bytes kind.1) >>= λ from. checked (endpoint from.1) (u8_at bytes from.1) >>= λ to. end_of (body_at kind.0 bytes to.1) >>= λ end. whole bytes (tt {0}, end)) (λ format. checked (known 15) (u8_at bytes format.1) >>= λ kind. checked (endpoint kind.1) (u8_at bytes kind.1) >>= λ from. checked (endpoint from.1) (u8_at bytes from.1) >>= λ to. body_at kind.0 bytes to.1 >>= λ message. whole bytes (record { from = from.0; to = to.0; message = message.0 }, message.1)) (λ e. done (tt {0})) (λ format.
-    push (checked (known 15) (u8_at bytes format.1)) (λ kind. checked (endpoint kind.1) (u8_at bytes kind.1) >>= λ from. checked (endpoint from.1) (u8_at bytes from.1) >>= λ to. end_of (body_at kind.0 bytes to.1) >>= λ end. whole bytes (tt {0}, end)) (λ kind. checked (endpoint kind.1) (u8_at bytes kind.1) >>= λ from. checked (endpoint from.1) (u8_at bytes from.1) >>= λ to. body_at kind.0 bytes to.1 >>= λ message. whole bytes (record { from = from.0; to = to.0; message = message.0 }, message.1)) (λ e. done (tt {0})) (λ kind.
+    push (checked (known 1 2) (u8_at bytes 0)) (λ format. checked (known_in format.0) (u8_at bytes format.1) >>= λ kind. checked (endpoint kind.1) (u8_at bytes kind.1) >>= λ from. checked (endpoint from.1) (u8_at bytes from.1) >>= λ to. end_of (body_at kind.0 bytes to.1) >>= λ end. whole bytes (tt {0}, end)) (λ format. checked (known_in format.0) (u8_at bytes format.1) >>= λ kind. checked (endpoint kind.1) (u8_at bytes kind.1) >>= λ from. checked (endpoint from.1) (u8_at bytes from.1) >>= λ to. body_at kind.0 bytes to.1 >>= λ message. whole bytes (record { from = from.0; to = to.0; message = message.0 }, message.1)) (λ e. done (tt {0})) (λ format.
+    push (checked (known_in format.0) (u8_at bytes format.1)) (λ kind. checked (endpoint kind.1) (u8_at bytes kind.1) >>= λ from. checked (endpoint from.1) (u8_at bytes from.1) >>= λ to. end_of (body_at kind.0 bytes to.1) >>= λ end. whole bytes (tt {0}, end)) (λ kind. checked (endpoint kind.1) (u8_at bytes kind.1) >>= λ from. checked (endpoint from.1) (u8_at bytes from.1) >>= λ to. body_at kind.0 bytes to.1 >>= λ message. whole bytes (record { from = from.0; to = to.0; message = message.0 }, message.1)) (λ e. done (tt {0})) (λ kind.
     push (checked (endpoint kind.1) (u8_at bytes kind.1)) (λ from. checked (endpoint from.1) (u8_at bytes from.1) >>= λ to. end_of (body_at kind.0 bytes to.1) >>= λ end. whole bytes (tt {0}, end)) (λ from. checked (endpoint from.1) (u8_at bytes from.1) >>= λ to. body_at kind.0 bytes to.1 >>= λ message. whole bytes (record { from = from.0; to = to.0; message = message.0 }, message.1)) (λ e. done (tt {0})) (λ from.
     push (checked (endpoint from.1) (u8_at bytes from.1)) (λ to. end_of (body_at kind.0 bytes to.1) >>= λ end. whole bytes (tt {0}, end)) (λ to. body_at kind.0 bytes to.1 >>= λ message. whole bytes (record { from = from.0; to = to.0; message = message.0 }, message.1)) (λ e. done (tt {0})) (λ to.
     ends (body_at kind.0 bytes to.1) (λ m. record { from = from.0; to = to.0; message = m }) bytes))))

@@ -32,6 +32,10 @@ is_of_structure kind = kind == 6 || kind == 7
 abbrev pub is_of_state : ℕ → Bool
 is_of_state kind = is_in_range 11 15 kind
 
+-- about what was heard of a centre's transactions
+abbrev pub is_of_floor : ℕ → Bool
+is_of_floor kind = kind == 16 || kind == 17
+
 -- about one transaction
 abbrev pub is_of_option : ℕ → Bool
 is_of_option kind = is_in_range 1 4 kind || kind == 9 || kind == 10

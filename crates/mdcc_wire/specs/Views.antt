@@ -7,7 +7,7 @@ use Rattle.mdcc_messages.specs.declared.messages.Message.TheVariants as messages
 use Rattle.mdcc_messages.specs.declared.wire.WireFault.{WireFault}
 use Rattle.mdcc_messages.specs.ReadingSteps.{◌>>=◌, u8_at, checked}
 use Rattle.mdcc_messages.specs.ReadingParts.{choice_at}
-use Rattle.mdcc_messages.specs.Reading.{known, endpoint, whole, body_at, view_of}
+use Rattle.mdcc_messages.specs.Reading.{known, known_in, endpoint, whole, body_at, view_of}
 use Rattle.mdcc_parts.specs.Reads.{end_of}
 
 -- a kind whose messages take no memory: all but promises and accepts, which have structures, and what a centre gives
@@ -23,8 +23,8 @@ viewed bytes = do
 -- the same without the message
 abbrev pub passed : List ℕ → Result (Unit {0}) WireFault
 passed bytes = do
-  format ← checked (known 1) (u8_at bytes 0)
-  kind ← checked (known 15) (u8_at bytes format.1)
+  format ← checked (known 1 2) (u8_at bytes 0)
+  kind ← checked (known_in format.0) (u8_at bytes format.1)
   from ← checked (endpoint kind.1) (u8_at bytes kind.1)
   to ← checked (endpoint from.1) (u8_at bytes from.1)
   end ← end_of (body_at kind.0 bytes to.1)

@@ -2,7 +2,7 @@
 ghost use Rattle.std.specs.Prelude.{◌≡◌, ◌≤◌, None, true};
 ghost use Rattle.mdcc_messages.specs.ReadingSteps.{elements_at, list_at};
 ghost use Rattle.mdcc_messages.specs.ReadingParts.{part_behind};
-ghost use Rattle.mdcc_messages.specs.Reading.{propose_at, voted_at, escalate_at, lead_at, prepare_at, refused_at, ended_at, ask_at, sync_ask_at, client_read_at, client_begin_at, client_answer_at, body_at};
+ghost use Rattle.mdcc_messages.specs.Reading.{propose_at, voted_at, escalate_at, lead_at, prepare_at, refused_at, ended_at, ask_at, sync_ask_at, client_read_at, client_begin_at, client_answer_at, mark_at, finished_at, body_at};
 ghost use Rattle.mdcc_wire.specs.Views.{is_plain, placed};
 
 use crate::answers::read_answer;
@@ -11,7 +11,7 @@ use mdcc_messages::{Message, WireFault};
 use mdcc_option::Part;
 use mdcc_parts::choices::read_choice;
 use mdcc_parts::given::{read_at_least, read_heard, read_instance};
-use mdcc_parts::identifiers::{read_ballot, read_classic, read_key, read_tx};
+use mdcc_parts::identifiers::{read_ballot, read_classic, read_key, read_numbers, read_tx};
 use mdcc_parts::items::read_part_behind;
 use mdcc_parts::marks::{read_cause, read_entry};
 use mdcc_parts::numbers::{u8_within, u32_at};
@@ -185,6 +185,24 @@ fn client_answer_into(bytes: &[u8], at: usize, into: &mut Message) -> Result<usi
     Ok(after)
 }
 
+// How far the sender has heard a centre's transactions.
+fn mark_into(bytes: &[u8], at: usize, into: &mut Message) -> Result<usize, WireFault>
+    ensures { placed result into.new ≡ mark_at bytes.now at }
+{
+    let ((centre, epoch, seq), after) = read_numbers(bytes, at)?;
+    *into = Message::Mark { centre, epoch, seq };
+    Ok(after)
+}
+
+// A transaction that all have heard.
+fn finished_into(bytes: &[u8], at: usize, into: &mut Message) -> Result<usize, WireFault>
+    ensures { placed result into.new ≡ finished_at bytes.now at }
+{
+    let (tx, after) = read_tx(bytes, at)?;
+    *into = Message::Finished(tx);
+    Ok(after)
+}
+
 /// Reads the body of a message of this kind, which takes no memory, and gives its end.
 pub fn plain_body_into(
     kind: u8,
@@ -207,6 +225,8 @@ pub fn plain_body_into(
         11 => sync_ask_into(bytes, at, into),
         13 => client_read_into(bytes, at, into),
         14 => client_begin_into(bytes, at, into),
-        _ => client_answer_into(bytes, at, into),
+        15 => client_answer_into(bytes, at, into),
+        16 => mark_into(bytes, at, into),
+        _ => finished_into(bytes, at, into),
     }
 }

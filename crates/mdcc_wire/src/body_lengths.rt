@@ -1,7 +1,7 @@
 //! Kinds of messages, and how many bytes messages have.
 ghost use Rattle.std.specs.Prelude.{◌≡◌, ◌≤◌, ◌+◌, ◌^◌, length};
 ghost use Rattle.mdcc_base.specs.Counts.{sum_over};
-ghost use Rattle.mdcc_messages.specs.Spelling.{kind_of};
+ghost use Rattle.mdcc_messages.specs.Spelling.{kind_of, format_of};
 ghost use Rattle.mdcc_messages.specs.Lengths.{part_length, body_length, message_length};
 ghost use Rattle.mdcc_wire.specs.Counts.{HasCounts};
 
@@ -13,7 +13,7 @@ use mdcc_append::lengths::{
 use mdcc_messages::{Envelope, Message};
 use mdcc_option::Part;
 
-/// The number of a message's kind, from 1 to 15.
+/// The number of a message's kind, from 1 to 17.
 pub fn kind_of(message: &Message) -> u8
     ensures { result ≡ kind_of message.now }
 {
@@ -33,6 +33,19 @@ pub fn kind_of(message: &Message) -> u8
         Message::ClientRead { .. } => 13,
         Message::ClientBegin { .. } => 14,
         Message::ClientAnswer { .. } => 15,
+        Message::Mark { .. } => 16,
+        Message::Finished(_) => 17,
+    }
+}
+
+/// The number of the format that has the message's kind.
+pub fn format_of(message: &Message) -> u8
+    ensures { result ≡ format_of message.now }
+{
+    match message {
+        Message::Mark { .. } => 2,
+        Message::Finished(_) => 2,
+        _ => 1,
     }
 }
 
@@ -76,6 +89,8 @@ fn body_length(message: &Message) -> usize
         Message::ClientRead { key, .. } => 4 + key_length(key),
         Message::ClientBegin { parts, .. } => 5 + parts_length(parts.as_slice()),
         Message::ClientAnswer { answer, .. } => 4 + answer_length(answer),
+        Message::Mark { .. } => 9,
+        Message::Finished(_) => 9,
     }
 }
 

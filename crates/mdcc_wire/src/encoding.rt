@@ -7,10 +7,10 @@ ghost use Rattle.mdcc_messages.specs.SpelledParts.{key_bytes, part_bytes};
 ghost use Rattle.mdcc_messages.specs.Spelling.{kind_of, body_bytes, message_bytes};
 ghost use Rattle.mdcc_messages.specs.Lengths.{key_length, part_length, body_length, message_length};
 ghost use Rattle.mdcc_wire.specs.Counts.{HasCounts};
-ghost use Rattle.mdcc_wire.specs.Encoding.{is_too_long, is_no_memory, encoded, is_of_option, is_of_ballot, is_of_structure, is_of_state};
+ghost use Rattle.mdcc_wire.specs.Encoding.{is_too_long, is_no_memory, encoded, is_of_option, is_of_ballot, is_of_structure, is_of_state, is_of_floor};
 
 use crate::answer_bytes::put_answer;
-use crate::body_lengths::{kind_of, message_length};
+use crate::body_lengths::{format_of, kind_of, message_length};
 use mdcc_append::appending::{
     put_ballot, put_choice, put_key, put_part, put_tx, put_u8, put_u32, put_u64,
 };
@@ -205,6 +205,24 @@ fn put_state_body(message: &Message, out: &mut Vec<u8>)
     }
 }
 
+// Appends the body of a message about what was heard of a centre's transactions: of kind 16 or 17.
+fn put_floor_body(message: &Message, out: &mut Vec<u8>)
+    requires kind { is_of_floor (kind_of message.now) ≡ true }
+    requires room { vec_len out.old + body_length message.now ≤ vec_capacity out.old }
+    ensures bytes { out.new.items ≡ out.old.items ++ body_bytes message.now }
+    ensures capacity { vec_capacity out.old ≤ vec_capacity out.new }
+{
+    match message {
+        Message::Mark { centre, epoch, seq } => {
+            put_u8(centre.number(), out);
+            put_u32(*epoch, out);
+            put_u32(*seq, out);
+        }
+        Message::Finished(tx) => put_tx(tx, out),
+        _ => {}
+    }
+}
+
 // Appends the body of a message of this kind.
 fn put_body(kind: u8, message: &Message, out: &mut Vec<u8>)
     requires kind { kind ≡ kind_of message.now }
@@ -216,6 +234,7 @@ fn put_body(kind: u8, message: &Message, out: &mut Vec<u8>)
         5 | 8 => put_ballot_body(message, out),
         6 | 7 => put_structure_body(message, out),
         11 | 12 | 13 | 14 | 15 => put_state_body(message, out),
+        16 | 17 => put_floor_body(message, out),
         _ => put_option_body(message, out),
     }
 }
@@ -229,7 +248,7 @@ pub fn write_message(envelope: &Envelope, out: &mut Vec<u8>) -> Result<(), Memor
 {
     out.try_reserve(message_length(envelope))?;
     let kind = kind_of(&envelope.message);
-    put_u8(1, out);
+    put_u8(format_of(&envelope.message), out);
     put_u8(kind, out);
     put_u8(envelope.from, out);
     put_u8(envelope.to, out);

@@ -3,7 +3,7 @@ ghost use Rattle.std.specs.Prelude.{◌≡◌, Ok, IfOk, IsOk, OnOk};
 ghost use Rattle.mdcc_base.specs.Unless.{GivesUnless};
 ghost use Rattle.mdcc_parts.specs.Reads.{is_wire_memory};
 ghost use Rattle.mdcc_messages.specs.ReadingSteps.{checked, u8_at};
-ghost use Rattle.mdcc_messages.specs.Reading.{known, endpoint, view_of};
+ghost use Rattle.mdcc_messages.specs.Reading.{known, known_in, endpoint, view_of};
 ghost use Rattle.mdcc_messages.specs.Spelling.{kind_of};
 ghost use Rattle.mdcc_messages.specs.ReadingParts.{choice_at};
 ghost use Rattle.mdcc_wire.specs.Views.{viewed, passed, placed_whole, choice_in, marks_in, kind_or_none, choice_or_none, choice_by};
@@ -36,15 +36,26 @@ impl<'a> Model for Viewed<'a> {
     ghost invariant = { λ v. IsOk (view_of v.bytes.now) };
 }
 
-// The byte at a place, the number of a format or a kind up to the highest that is known.
-fn known_at(highest: u8, bytes: &[u8], at: usize) -> Result<(u8, usize), WireFault>
-    ensures { result ≡ checked (known highest) (u8_at bytes.now at) }
+// The byte at a place, the number of a format or a kind from the lowest to the highest that is known.
+fn known_at(lowest: u8, highest: u8, bytes: &[u8], at: usize) -> Result<(u8, usize), WireFault>
+    ensures { result ≡ checked (known lowest highest) (u8_at bytes.now at) }
 {
     let (number, after) = u8_at(bytes, at)?;
-    if 1 <= number && number <= highest {
+    if lowest <= number && number <= highest {
         Ok((number, after))
     } else {
         Err(WireFault::Kind)
+    }
+}
+
+// The byte at a place, the number of a kind that the format has.
+fn kind_in(format: u8, bytes: &[u8], at: usize) -> Result<(u8, usize), WireFault>
+    ensures { result ≡ checked (known_in format) (u8_at bytes.now at) }
+{
+    if format == 1 {
+        known_at(1, 15, bytes, at)
+    } else {
+        known_at(16, 17, bytes, at)
     }
 }
 
@@ -64,8 +75,8 @@ fn endpoint_at(bytes: &[u8], at: usize) -> Result<(u8, usize), WireFault>
 fn check_message(bytes: &[u8]) -> Result<(), WireFault>
     ensures { result ≡ passed bytes.now }
 {
-    let (_format, after) = known_at(1, bytes, 0)?;
-    let (kind, after) = known_at(15, bytes, after)?;
+    let (format, after) = known_at(1, 2, bytes, 0)?;
+    let (kind, after) = kind_in(format, bytes, after)?;
     let (_from, after) = endpoint_at(bytes, after)?;
     let (_to, after) = endpoint_at(bytes, after)?;
     let end = check_body(kind, bytes, after)?;
@@ -109,8 +120,8 @@ pub fn view(bytes: &[u8]) -> Result<Viewed<'_>, WireFault>
 pub fn read_envelope(alloc: Global, bytes: &[u8], into: &mut Envelope) -> Result<(), WireFault>
     ensures { GivesUnless is_wire_memory (placed_whole result into.new) (view_of bytes.now) }
 {
-    let (_format, after) = known_at(1, bytes, 0)?;
-    let (kind, after) = known_at(15, bytes, after)?;
+    let (format, after) = known_at(1, 2, bytes, 0)?;
+    let (kind, after) = kind_in(format, bytes, after)?;
     let (from, after) = endpoint_at(bytes, after)?;
     let (to, after) = endpoint_at(bytes, after)?;
     let end = read_body(alloc, kind, bytes, after, &mut into.message)?;
@@ -195,7 +206,7 @@ impl<'a> Viewed<'a> {
         }
     }
 
-    /// The number of its kind, from 1 to 15.
+    /// The number of its kind, from 1 to 17.
     pub fn kind(&self) -> u8
         ensures { IfOk (view_of self.now) (λ envelope. result ≡ kind_of envelope.message) }
     {

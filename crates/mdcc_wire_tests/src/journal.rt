@@ -3,7 +3,7 @@ ghost use Rattle.mdcc_journal.specs.Counts.{HasCounts};
 
 use crate::bytes::{
     AMOUNTS, BALLOT, CHOICE, FAST, ITEM, NEXT_TX, PLACE, TX, ballot, choice, deltas, item, joined,
-    key, options, tx,
+    key, next_tx, options, tx,
 };
 use crate::spelled::are_same;
 use mdcc_base::{Ballot, BoundedList, HeapList, Plain};
@@ -23,8 +23,8 @@ fn is_written(alloc: Global, fact: &Fact, bytes: &[u8]) -> Result<bool, Fail>
     Ok(out.as_slice() == bytes && fact_length(fact) == bytes.len())
 }
 
-// The fact that the bytes spell.
-fn fact_of(alloc: Global, bytes: &[u8]) -> Result<Fact, Fail> {
+/// The fact that the bytes spell.
+pub fn fact_of(alloc: Global, bytes: &[u8]) -> Result<Fact, Fail> {
     Ok(
         decode_fact(alloc, bytes)
             .ok()
@@ -32,7 +32,8 @@ fn fact_of(alloc: Global, bytes: &[u8]) -> Result<Fact, Fail> {
     )
 }
 
-fn is_boot(fact: &Fact) -> bool {
+/// Whether it is the start of epoch 258.
+pub fn is_boot(fact: &Fact) -> bool {
     match fact {
         Fact::Booted(epoch) => *epoch == 258,
         _ => false,
@@ -44,7 +45,8 @@ fn is_booted(alloc: Global) -> Result<bool, Fail> {
     Ok(is_written(alloc, &Fact::Booted(258), &bytes)? && is_boot(&fact_of(alloc, &bytes)?))
 }
 
-fn is_promise(fact: &Fact) -> bool {
+/// Whether it is the promise for key a at versions 7 to 107 and ballot 2.3.4.
+pub fn is_promise(fact: &Fact) -> bool {
     match fact {
         Fact::Promised {
             key: of,
@@ -67,7 +69,8 @@ fn is_promised(alloc: Global) -> Result<bool, Fail> {
     Ok(is_written(alloc, &promised, &bytes)? && is_promise(&fact_of(alloc, &bytes)?))
 }
 
-fn is_vote(fact: &Fact, at: &Ballot, marks: &Options, offered: &Option<Choice>) -> bool {
+/// Whether it is the vote for key a at version 7 with these marks at a ballot.
+pub fn is_vote(fact: &Fact, at: &Ballot, marks: &Options, offered: &Option<Choice>) -> bool {
     match fact {
         Fact::Voted {
             key: of,
@@ -107,7 +110,8 @@ fn is_vote_written(
     is_written(alloc, &voted, bytes)
 }
 
-fn is_heard_as(fact: &Fact, outcome: &Outcome) -> bool {
+/// Whether it is this outcome of transaction 1.1.1.
+pub fn is_heard_as(fact: &Fact, outcome: &Outcome) -> bool {
     match fact {
         Fact::Heard {
             tx: of,
@@ -126,7 +130,8 @@ fn is_heard(alloc: Global, outcome: &Outcome, outcome_bytes: &[u8]) -> Result<bo
     Ok(is_written(alloc, &heard, &bytes)? && is_heard_as(&fact_of(alloc, &bytes)?, outcome))
 }
 
-fn is_adoption(fact: &Fact, given: &HeapList<Delta>) -> bool {
+/// Whether it is key a at version 7 with the item and these deltas.
+pub fn is_adoption(fact: &Fact, given: &HeapList<Delta>) -> bool {
     match fact {
         Fact::Adopted {
             key: of,
@@ -159,10 +164,28 @@ fn is_adopted(alloc: Global) -> Result<bool, Fail> {
     )
 }
 
+fn is_floor(fact: &Fact) -> bool {
+    match fact {
+        Fact::Floor { centre, epoch, seq } => { centre.number() == 2 && *epoch == 1 && *seq == 258 }
+        _ => false,
+    }
+}
+
+fn is_floor_set(alloc: Global) -> Result<bool, Fail> {
+    let bytes = joined(alloc, &[&[6], &NEXT_TX])?;
+    let floor = Fact::Floor {
+        centre: next_tx().centre,
+        epoch: 1,
+        seq: 258,
+    };
+    Ok(is_written(alloc, &floor, &bytes)? && is_floor(&fact_of(alloc, &bytes)?))
+}
+
 #[test]
 fn starts_promises_and_outcomes(rt: HostRuntime) -> Result<(), Fail> {
     let alloc = rt.alloc();
     assert!(rt; is_booted(alloc)? && is_promised(alloc)? && is_adopted(alloc)?);
+    assert!(rt; is_floor_set(alloc)?);
     assert!(rt; is_heard(alloc, &Outcome::Abort, &[0])?);
     let commit = Outcome::Commit(BoundedList::from_slice(&[choice()]).unwrap_or_default());
     let bytes = joined(alloc, &[&[1, 1], &CHOICE])?;

@@ -9,7 +9,11 @@ mod bytes;
 #[cfg(test)]
 mod clients;
 #[cfg(test)]
+mod heard;
+#[cfg(test)]
 mod journal;
+#[cfg(test)]
+mod kept;
 #[cfg(test)]
 mod parts;
 #[cfg(test)]

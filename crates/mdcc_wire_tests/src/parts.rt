@@ -28,6 +28,8 @@ fn names(rt: HostRuntime) -> Result<(), Fail> {
     assert!(rt; name.is(&next_tx()) && after == 11);
     let (name, after) = read(read_ballot(&out, after))?;
     assert!(rt; name.is(&ballot()) && after == 20);
+    let ((centre, epoch, seq), after) = read(read_numbers(&out, 2))?;
+    assert!(rt; centre.number() == 2 && epoch == 1 && seq == 258 && after == 11);
     Ok(())
 }
 

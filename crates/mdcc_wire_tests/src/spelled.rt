@@ -7,10 +7,12 @@ use mdcc_wire::{Envelope, Message, encode, message_length, view};
 use std::alloc::Global;
 use std::test::Fail;
 
-// The bytes of a message of this kind with this body, from centre 9 to the client of centre 1.
+// The bytes of a message of this kind with this body, from centre 9 to the client of centre 1. The kinds from 16 on are of the
+// second format.
 fn headed(alloc: Global, kind: u8, body: &[&[u8]]) -> Result<Vec<u8>, Fail> {
     let rest = joined(alloc, body)?;
-    joined(alloc, &[&[1, kind, 9, 17], &rest])
+    let format = if kind < 16 { 1 } else { 2 };
+    joined(alloc, &[&[format, kind, 9, 17], &rest])
 }
 
 /// Whether the message is written as the head of this kind and this body.

@@ -12,7 +12,7 @@ const PROPOSE: [u8; 46] = [
 ];
 
 /// Centre 2 asks centre 3 for transaction 1.1.1 at key b and version 0.
-const ASK: [u8; 23] = [
+pub const ASK: [u8; 23] = [
     1, 10, 2, 3, 1, 1, 0, 0, 0, 1, 0, 0, 0, 1, 98, 0, 0, 0, 0, 0, 0, 0, 0,
 ];
 

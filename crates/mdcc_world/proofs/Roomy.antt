@@ -1,5 +1,5 @@
 -- A node over a store that counts the cells of the cluster does the step of the definitions, and its store counts them after it.
-use Rattle.std.proofs.Common.{◌≡◌, ℕ, ◌+◌, ◌-◌, List, inl, inr, Option, Some, None, Result, Ok, Err, refl, subst, arith}
+use Rattle.std.proofs.Common.{◌≡◌, ◌∙◌, ℕ, ◌+◌, ◌-◌, List, inl, inr, Option, Some, None, Result, Ok, Err, ap, refl, sym, subst, arith}
 use Rattle.std.proofs.lemmas.Bool.{cases_Bool}
 use Rattle.mdcc_base.specs.Unless.{GivesUnless}
 use Rattle.mdcc_centre.specs.Nodes.{CentreStore, IsNodeOf, are_stored, needed_in, spare_of}
@@ -11,6 +11,7 @@ use Rattle.mdcc_node.specs.Represents.{RepresentsCentre}
 use Rattle.mdcc_node.specs.StepAnswers.{UnlessMemory, facts_left, step_result, is_step_memory, room_of, step_by, volatile_left}
 use Rattle.mdcc_node.specs.declared.node.Node.{Node}
 use Rattle.mdcc_option.specs.declared.cluster.Cluster.{Cluster}
+use Rattle.mdcc_protocol.proofs.Plain.{cells_plain}
 use Rattle.mdcc_protocol.specs.Volatile.{Volatile}
 use Rattle.mdcc_rules.specs.Node.{step_of}
 use Rattle.mdcc_rules.specs.Steps.{NodeStep, step_given, with_new}
@@ -27,7 +28,7 @@ module _ (node : Node CentreStore) (cluster : Cluster) (me : ℕ) (facts : List 
   -- its step is the one of the definitions
   pub step-roomy : (input : Input) → step_by (room_of spare_of needed_in node.store) cluster me facts volatile input ≡ step_of (here cluster me facts) volatile input
   step-roomy input =
-      counted_steps (room_of spare_of needed_in node.store) cluster me facts volatile input (left-over (spare_of node.store) (cells_used facts) cluster.cells is.spare) (λ fact. refl)
+      counted_steps (room_of spare_of needed_in node.store) cluster me facts volatile input (left-over (spare_of node.store) (cells_used facts) cluster.cells is.spare ∙ ap (λ (n : ℕ). cluster.cells - n) (sym (cells_plain facts is.itself.store.added.no_floor))) (λ fact. refl)
 
   module _ (after : Node CentreStore) where
     spent : (o : Option Fact) → spare_of after.store + cells_taken (needed_in node.store) o ≡ spare_of node.store → spare_of after.store + cells_used (with_new facts o) ≡ cluster.cells

@@ -129,6 +129,7 @@ module _ (world : TheWorld) (w : World) (a : ℕ) (input : Input) (step : Step) 
     where
       by_input : (i : Input) → input ≡ i → step_at w a i ≡ Ok s → is_begin i ≡ false
       by_input Input.Tick e k = refl
+      by_input Input.Sweep e k = refl
       by_input (Input.Message envelope) e k = refl
       by_input (Input.Read key) e k = refl
       by_input (Input.Begin parts) e k =

@@ -8,4 +8,5 @@ pub mod Nodes
 pub mod SettleEnd
 pub mod Represents
 pub mod StoppedAppend
+pub mod Timed
 pub mod Report

@@ -36,6 +36,7 @@ impl World {
             Event::Deliver(numbers) => self.deliver(numbers.as_slice(), lines),
             Event::Settle(listed) => self.settle(listed, lines),
             Event::Tick(centre) => self.tick(*centre, lines),
+            Event::Sweep(centre) => self.sweep(*centre, lines),
             Event::Crash(centre) => self.crash(*centre, lines),
             Event::Restart(centre) => self.restart(*centre, lines),
             Event::Stop(centre, call, image) => self.stop(*centre, *call, *image, lines),

@@ -1,17 +1,19 @@
 //! What the nodes of centres make of inputs, before it is let out.
-ghost use Rattle.std.specs.Prelude.{◌≡◌, ◌≤◌, ◌<◌, ◌+◌, ◌++◌, IfOk, List, Ok, OnOk, true, ℕ};
+ghost use Rattle.std.specs.Prelude.{◌≡◌, ◌≤◌, ◌<◌, ◌+◌, ◌++◌, IfOk, List, Ok, OnOk, false, true, ℕ};
 ghost use Rattle.mdcc_base.specs.Sizes.{Sizes};
 ghost use Rattle.mdcc_option.specs.declared.items.Part.{Part as APart};
 ghost use Rattle.mdcc_outcomes.specs.Represents.{RepresentsLedger};
 ghost use Rattle.mdcc_ledger.specs.Ledger.{Entry};
 ghost use Rattle.mdcc_simulation.specs.State.{World as AWorld, counted_event, is_up_at};
 ghost use Rattle.mdcc_rules.specs.declared.node.Input.{Input as AInput};
-ghost use Rattle.mdcc_steps.specs.Inputs.{AreWellFormedParts};
+ghost use Rattle.mdcc_steps.specs.Inputs.{AreWellFormedParts, IsWellFormedInput};
+ghost use Rattle.mdcc_steps.specs.NodeInvariant.{accept_length_in};
 ghost use Rattle.mdcc_node.specs.StepPlans.{blank, written};
 ghost use Rattle.mdcc_world.specs.NodeRuns.{HasRun, HasRunMessage};
 ghost use Rattle.mdcc_world.specs.Represents.{IsLike, IsLikeSome};
 ghost use Rattle.mdcc_world.specs.Report.{begun_entries, begun_tx};
 ghost use Rattle.mdcc_worlds.specs.DeliveryProgress.{at_message};
+ghost use Rattle.mdcc_worlds.specs.StepSends.{is_begin};
 
 use crate::nodes::{act_on, receive};
 use crate::world::World;
@@ -58,22 +60,26 @@ fn count(decisions: &mut Decisions, input: &Input, answer: &Option<Answer>) -> R
 }
 
 impl World {
-    // Time passes at a centre, which is an event.
-    pub(crate) fn run_tick(
+    // A tick or a sweep comes to a centre, which is an event.
+    pub(crate) fn run_timed(
         &mut self,
         centre: Centre,
+        input: &Input,
         step: &mut Step,
     ) -> Result<Result<(), StepFault>, Memory>
+        requires formed { IsWellFormedInput input.now }
+        requires other { is_begin input.now ≡ false }
+        requires short { accept_length_in input.now ≤ 2097152 }
         requires blank { step.old ≡ blank }
         requires few { self.old.events < 100000 }
         requires like { IsLikeSome self.old }
         requires up { (w : AWorld) → IsLike self.old w → is_up_at w centre ≡ true }
         ensures made { (w : AWorld) → IsLike self.old w
-            → IfOk result (λ made. HasRun self.new (counted_event w) centre AInput.Tick (written made step.new)) }
+            → IfOk result (λ made. HasRun self.new (counted_event w) centre input.now (written made step.new)) }
         ensures few { self.new.events ≤ self.old.events + 1 }
     {
         self.events += 1;
-        let made = act_on(&mut self.nodes, centre, &Input::Tick, step)?;
+        let made = act_on(&mut self.nodes, centre, input, step)?;
         Ok(made)
     }
 

@@ -1,36 +1,48 @@
-//! Ticks.
+//! Ticks and sweeps.
 ghost use Rattle.std.specs.Prelude.{◌≡◌, ◌≤◌, ◌<◌, IfErr, OnErr, OnOk, true};
 ghost use Rattle.mdcc_simulation.specs.State.{World as AWorld};
 ghost use Rattle.mdcc_simulation.specs.Events.{after_event};
 ghost use Rattle.mdcc_simulation.specs.Limits.{input_limited, with_lines};
 ghost use Rattle.mdcc_simulation.specs.AppliedSteps.{step_at};
-ghost use Rattle.mdcc_simulation.specs.Centres.{tick_line};
 ghost use Rattle.mdcc_language.specs.declared.events.Event.{Event as AEvent};
 ghost use Rattle.mdcc_rules.specs.declared.node.Input.{Input as AInput};
 ghost use Rattle.mdcc_world.specs.Faults.{OnRefusal, is_free};
 ghost use Rattle.mdcc_node.specs.StepPlans.{written};
 ghost use Rattle.mdcc_world.specs.NodeRuns.{HasRun, HasRunSome};
 ghost use Rattle.mdcc_world.specs.Represents.{Happens, IsLike, IsLikeSome};
+ghost use Rattle.mdcc_world.specs.Timed.{timed_line, timed_lines};
 
 use crate::report::report_event;
 use crate::world::World;
 use mdcc_base::{Centre, HeapList};
 use mdcc_language::{EventFault, Line};
 use mdcc_node::blank;
-use mdcc_rules::{Step, StepFault};
+use mdcc_rules::{Input, Step, StepFault};
+
+// The line of a tick or a sweep.
+fn timed_line(sweeps: bool, centre: Centre, next: u32) -> Line
+    ensures { result ≡ timed_line sweeps centre next }
+{
+    if sweeps {
+        Line::Sweep(centre, next)
+    } else {
+        Line::Tick(centre, next)
+    }
+}
 
 impl World {
-    // What a centre made of a tick is taken, behind the line of the tick.
-    fn apply_tick(
+    // What a centre made of a tick or a sweep is taken, behind its line.
+    fn apply_timed(
         &mut self,
         centre: Centre,
+        sweeps: bool,
         made: &Result<(), StepFault>,
         step: &Step,
         lines: &mut HeapList<Line>,
     ) -> Result<(), EventFault>
         requires some { HasRunSome self.old centre (written made.now step.now) }
         ensures happens { (w : AWorld) (input : AInput) → HasRun self.old w centre input (written made.now step.now)
-            → Happens self.new lines.old lines.new result (with_lines (tick_line centre) (input_limited w centre (step_at w centre input))) }
+            → Happens self.new lines.old lines.new result (with_lines (timed_lines sweeps centre) (input_limited w centre (step_at w centre input))) }
         ensures free { IfErr result (λ fault. is_free fault ≡ true) }
         ensures events { self.new.events ≡ self.old.events }
         ensures untold { OnErr result (lines.new ≡ lines.old) }
@@ -40,7 +52,7 @@ impl World {
         report_event(
             self.alloc,
             lines,
-            Line::Tick(centre, self.next_message()),
+            timed_line(sweeps, centre, self.next_message()),
             reported,
         )
     }
@@ -60,7 +72,26 @@ impl World {
     {
         self.at_centre(centre)?;
         let mut step = blank(self.alloc);
-        let made = self.run_tick(centre, &mut step)?;
-        self.apply_tick(centre, &made, &step, lines)
+        let made = self.run_timed(centre, &Input::Tick, &mut step)?;
+        self.apply_timed(centre, false, &made, &step, lines)
+    }
+
+    // A sweep line.
+    pub(crate) fn sweep(
+        &mut self,
+        centre: Centre,
+        lines: &mut HeapList<Line>,
+    ) -> Result<(), EventFault>
+        requires { IsLikeSome self.old }
+        ensures happens { (w : AWorld) → IsLike self.old w
+            → Happens self.new lines.old lines.new result (after_event w (AEvent.Sweep centre)) }
+        ensures few { OnOk result (self.new.events ≤ 100000) }
+        ensures kept { OnRefusal result ((self.new ≡ self.old) × (lines.new ≡ lines.old)) }
+        ensures untold { OnErr result (lines.new ≡ lines.old) }
+    {
+        self.at_centre(centre)?;
+        let mut step = blank(self.alloc);
+        let made = self.run_timed(centre, &Input::Sweep, &mut step)?;
+        self.apply_timed(centre, true, &made, &step, lines)
     }
 }

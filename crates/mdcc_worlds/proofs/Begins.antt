@@ -61,7 +61,7 @@ first-stands cluster itself = record {
   cells = λ a h.
       let both = some-centre cluster a h in
       let some = itself.some_cells in
-      rw (first-facts cluster.quorums.centres a both.0 both.1) some;
+      rw (first-facts cluster.quorums.centres a both.0 both.1) (tt, some);
   epochs = λ a h. let both = some-centre cluster a h in rw (first-facts cluster.quorums.centres a both.0 both.1) (omega arith);
   sent = tt;
   reads = tt;

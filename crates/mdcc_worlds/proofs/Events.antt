@@ -15,7 +15,7 @@ use Rattle.mdcc_simulation.specs.State.{Happened, World, counted_event, is_up_at
 use Rattle.mdcc_messages.specs.Mailbox.{Sent, numbered}
 use Rattle.mdcc_simulation.specs.Clients.{answer_in, begin_lines, after_begin, begun_by, no_item, parts_begun, read_happened}
 use Rattle.mdcc_simulation.specs.Limits.{passed_bytes_limit, passed_cells_limit, input_limited, input_applied, is_limit, is_past_events, limit_if, passed_log_limit, step_limit, step_limit_by, unless_limit, with_lines, within_events}
-use Rattle.mdcc_simulation.specs.Centres.{crash_happened, restart_happened, after_restart, stop_happened, tick_line}
+use Rattle.mdcc_simulation.specs.Centres.{crash_happened, restart_happened, after_restart, stop_happened, tick_line, sweep_line}
 use Rattle.mdcc_simulation.specs.Deliveries.{deliver_line, after_message, after_delivery}
 use Rattle.mdcc_simulation.specs.Events.{after_event}
 use Rattle.mdcc_simulation.specs.AppliedSteps.{step_at, step_happened_by, step_stopped}
@@ -35,7 +35,7 @@ use Rattle.mdcc_language.specs.declared.world.LimitName.{LimitName}
 use Rattle.mdcc_worlds.proofs.Stays.{by-none, by-some}
 use Rattle.mdcc_worlds.specs.BeginEffects.{after_begin_resolved, after_begin_words, after_begin_parts, after_begin_draft}
 use Rattle.mdcc_worlds.specs.DeliveryProgress.{at_message, after_numbered_message, after_sent_message, delivery_reported, message_by, message_counted}
-use Rattle.mdcc_worlds.specs.EventEffects.{at_centre, at_limit, at_restart, if_open, restart_epoch, restarted, tick_reported}
+use Rattle.mdcc_worlds.specs.EventEffects.{at_centre, at_limit, at_restart, if_open, restart_epoch, restarted, tick_reported, sweep_reported}
 use Rattle.mdcc_worlds.specs.StepEffects.{limit_passed, step_reported, after_whole_step, reported_by}
 
 -- ---- limits
@@ -125,6 +125,11 @@ pub tick-is : (w : World) (a : ℕ) → after_event w (Event.Tick a) ≡ if_open
 tick-is w a =
     at-centre-is w a (tick_reported w a)
     (lines-limited (tick_line a) (input_applied (counted_event w) a Input.Tick) (input-limits (counted_event w) a (step_at (counted_event w) a Input.Tick)))
+
+pub sweep-is : (w : World) (a : ℕ) → after_event w (Event.Sweep a) ≡ if_open (at_centre w a) (sweep_reported w a)
+sweep-is w a =
+    at-centre-is w a (sweep_reported w a)
+    (lines-limited (sweep_line a) (input_applied (counted_event w) a Input.Sweep) (input-limits (counted_event w) a (step_at (counted_event w) a Input.Sweep)))
 
 pub crash-is : (w : World) (a : ℕ) → after_event w (Event.Crash a) ≡ if_open (at_centre w a) (Ok (crash_happened (counted_event w) a))
 crash-is w a = at-centre-is w a (Ok (crash_happened (counted_event w) a)) tt

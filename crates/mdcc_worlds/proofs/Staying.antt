@@ -12,14 +12,14 @@ use Rattle.mdcc_option.specs.declared.faults.DraftFault.{DraftFault}
 use Rattle.mdcc_option.specs.declared.items.Part.{Part}
 use Rattle.mdcc_protocol.specs.Belongs.{is_centre}
 use Rattle.mdcc_ledger.specs.Ledger.{facts_of}
-use Rattle.mdcc_messages.specs.Lengths.{cells_needed, cells_used, log_length}
+use Rattle.mdcc_messages.specs.Lengths.{cells_needed, log_length}
 use Rattle.mdcc_rules.specs.Steps.{NodeStep, with_new}
 use Rattle.mdcc_rules.specs.declared.node.StepFault.{StepFault}
 use Rattle.mdcc_language.specs.Resolve.{resolve}
 use Rattle.mdcc_simulation.specs.State.{Happened, World, after_lines, centre_at, counted_event, is_up_at}
 use Rattle.mdcc_messages.specs.Mailbox.{Sent, numbered}
 use Rattle.mdcc_simulation.specs.Clients.{answer_in, begin_lines, no_item, read_happened}
-use Rattle.mdcc_simulation.specs.Centres.{crash_happened, restart_happened, stop_happened, tick_line}
+use Rattle.mdcc_simulation.specs.Centres.{crash_happened, restart_happened, stop_happened, tick_line, sweep_line}
 use Rattle.mdcc_simulation.specs.Deliveries.{deliver_line, after_deliveries, after_delivery, first_waiting, settled_line, settled_of}
 use Rattle.mdcc_simulation.specs.Events.{after_event}
 use Rattle.mdcc_simulation.specs.AppliedSteps.{input_happened, step_at}
@@ -38,17 +38,18 @@ use Rattle.mdcc_steps.specs.Inputs.{IsWellFormedInput}
 use Rattle.mdcc_worlds.proofs.Counts.{delivery-events, limited-events, open-few, unless-happened}
 use Rattle.mdcc_worlds.proofs.Delivers.{next-of, refused-of}
 use Rattle.mdcc_worlds.proofs.Drafting.{parts-formed}
-use Rattle.mdcc_worlds.proofs.Events.{begin-is, crash-is, delivery-is, open-is, read-is, restart-is, stop-is, tick-is}
+use Rattle.mdcc_worlds.proofs.Events.{begin-is, crash-is, delivery-is, open-is, read-is, restart-is, stop-is, tick-is, sweep-is}
 use Rattle.mdcc_worlds.proofs.Numbers.{each-numbered}
 use Rattle.mdcc_worlds.proofs.Settles.{settle-closed, settled-limit, settled-next, settled-none, settled-refused, waiting-events}
 use Rattle.mdcc_worlds.proofs.Stays.{KeepsLog, counted-stays, crash-stays, delivered-stays, input-stays, read-stays, restart-stays, stop-stays}
 use Rattle.mdcc_worlds.specs.BeginEffects.{after_begin_resolved, after_begin_parts, after_begin_draft}
 use Rattle.mdcc_worlds.specs.DeliveryProgress.{at_message, after_numbered_message, after_sent_message, delivery_reported, message_by, message_counted, unmoved}
 use Rattle.mdcc_worlds.specs.Events.{IsBetween}
-use Rattle.mdcc_worlds.specs.EventEffects.{at_centre, at_limit, at_restart, if_open, restart_epoch, restarted, tick_reported}
+use Rattle.mdcc_worlds.specs.EventEffects.{at_centre, at_limit, at_restart, if_open, restart_epoch, restarted, tick_reported, sweep_reported}
 use Rattle.mdcc_worlds.specs.SettleProgress.{settle_reported, settle_ended}
 use Rattle.mdcc_worlds.specs.WorldInvariant.{IsSentWithin, IsWorld}
 use Rattle.mdcc_worlds.specs.Words.{IsGivenEvent, IsGivenWord}
+use Rattle.mdcc_protocol.specs.Cells.{cells_held}
 
 -- ---- limits
 
@@ -71,14 +72,11 @@ log-open w a fact e =
     ltb-false most_log (log_length (fact ∷ facts_of w.ledger a)) clear
 
 -- nor does a boot that the cells do not refuse pass them
-cells-open : (w : World) (a : ℕ) (fact : Fact) → passed_cells_limit w a fact ≡ None → cells_used (fact ∷ facts_of w.ledger a) ≤ w.cluster.cells
+cells-open : (w : World) (a : ℕ) (fact : Fact) → passed_cells_limit w a fact ≡ None → cells_held (facts_of w.ledger a) + cells_needed fact ≤ w.cluster.cells
 cells-open w a fact e =
     let facts = facts_of w.ledger a in
-    let clear = limit-open (nat_lt w.cluster.cells (cells_used facts + cells_needed fact)) LimitName.Cells (cells_used facts + cells_needed fact) e in
-    turned (cells_needed fact) (cells_used facts) w.cluster.cells (ltb-false w.cluster.cells (cells_used facts + cells_needed fact) clear)
-  where
-    turned : (a b c : ℕ) → b + a ≤ c → a + b ≤ c
-    turned a b c h = omega (h, arith)
+    let clear = limit-open (nat_lt w.cluster.cells (cells_held facts + cells_needed fact)) LimitName.Cells (cells_held facts + cells_needed fact) e in
+    ltb-false w.cluster.cells (cells_held facts + cells_needed fact) clear
 
 log-kept : (w : World) (a : ℕ) (r : Result NodeStep StepFault) → IsWorld w → is_centre w.cluster a ≡ true
     → step_limit w a r ≡ None → KeepsLog w a r
@@ -211,6 +209,12 @@ tick-between w a h between e =
     let both = opened (at_centre w a) (tick_reported w a) h (sym (tick-is w a) ∙ e) in
     let there = open-centre w a both.0 in
     lines-between w a Input.Tick (tick_line a) h between there.0 there.1 tt both.1
+
+sweep-between : (w : World) (a : ℕ) (h : Happened) → IsBetween w → after_event w (Event.Sweep a) ≡ Ok h → IsBetween h.world
+sweep-between w a h between e =
+    let both = opened (at_centre w a) (sweep_reported w a) h (sym (sweep-is w a) ∙ e) in
+    let there = open-centre w a both.0 in
+    lines-between w a Input.Sweep (sweep_line a) h between there.0 there.1 tt both.1
 
 crash-between : (w : World) (a : ℕ) (h : Happened) → IsBetween w → after_event w (Event.Crash a) ≡ Ok h → IsBetween h.world
 crash-between w a h between e =
@@ -362,6 +366,7 @@ event-between w (Event.Begin a words) h between given e = begin-between w a word
 event-between w (Event.Deliver numbers) h between given e = deliveries-between numbers (unmoved w) h between e
 event-between w (Event.Settle listed) h between given e = settle-between w listed h between e
 event-between w (Event.Tick a) h between given e = tick-between w a h between e
+event-between w (Event.Sweep a) h between given e = sweep-between w a h between e
 event-between w (Event.Crash a) h between given e = crash-between w a h between e
 event-between w (Event.Restart a) h between given e = restart-between w a h between e
 event-between w (Event.Stop a call image) h between given e = stop-between w a call image h between e

@@ -15,7 +15,7 @@ use Rattle.mdcc_ledger.specs.Ledger.{Entry, facts_of}
 use Rattle.mdcc_rules.specs.Steps.{NodeStep, answering, with_new}
 use Rattle.mdcc_protocol.specs.Visible
 use Rattle.mdcc_protocol.specs.Volatile.{Volatile, initial_volatile}
-use Rattle.mdcc_messages.specs.Lengths.{cells_needed, cells_used, log_length}
+use Rattle.mdcc_messages.specs.Lengths.{cells_needed, log_length}
 use Rattle.mdcc_messages.specs.WellFormed.{IsWellFormedEnvelope, IsWellFormedFact}
 use Rattle.mdcc_messages.specs.Mailbox.{Sent, unsent, with_delivered}
 use Rattle.mdcc_simulation.specs.State.{Happened, Site, World, booted, centre_at, counted_event, down, with_centre}
@@ -36,12 +36,13 @@ use Rattle.mdcc_steps.proofs.Cells.{few-logged}
 use Rattle.mdcc_steps.proofs.Dispatched.{node-stays, sends-formed}
 use Rattle.mdcc_steps.proofs.Each.{each-append}
 use Rattle.mdcc_steps.proofs.Shortness.{sends-short}
-use Rattle.mdcc_steps.specs.NodeInvariant.{HasRoom, IsNode, accept_length, payloads_of}
+use Rattle.mdcc_steps.specs.NodeInvariant.{HasRoom, IsNode, accept_length, payloads_of, FitInTurn}
 use Rattle.mdcc_steps.specs.Inputs.{IsWellFormedInput}
 use Rattle.mdcc_worlds.proofs.Within.{LeavesEpoch, made-epoch, made-stays}
 use Rattle.mdcc_worlds.specs.StepSends.{GoesWithin, StaysWithin}
 use Rattle.mdcc_worlds.specs.WorldInvariant.{IsWellFormedKnown, IsSentWithin, IsWorld}
 use Rattle.mdcc_worlds.specs.StepEffects.{after_whole_step, ledger_with_fact, tail_with_fact, world_after_step}
+use Rattle.mdcc_protocol.specs.Cells.{cells_held}
 
 -- ---- centres
 
@@ -165,14 +166,14 @@ module _ (w : World) (a : ℕ) (step : NodeStep) (stands : IsWorld w) (centre : 
   ]
 
   pub world-stays : IsNode w.cluster a (with_new (facts_of w.ledger a) step.fact) step.after → LeavesEpoch step.fact → AllByRecursion IsWellFormedEnvelope step.sends → AreShort step.sends
-      → log_length (with_new (facts_of w.ledger a) step.fact) ≤ most_log → cells_used (with_new (facts_of w.ledger a) step.fact) ≤ w.cluster.cells
+      → log_length (with_new (facts_of w.ledger a) step.fact) ≤ most_log → FitInTurn w.cluster (with_new (facts_of w.ledger a) step.fact)
       → IsWorld (world_after_step w a step)
   world-stays node epoch formed short log cells = record {
     cluster_itself = stands.cluster_itself;
     sites = length-set w.centres (a - 1) (site_with w a step) ∙ stands.sites;
     nodes = λ b h. each-stays (λ b facts s. is_centre w.cluster b ≡ true → IsNode w.cluster b facts s.volatile) (λ b some e h. stands.nodes b h) (λ h. node) b (some-centre w.cluster b h).0 h;
     logs = λ b h. each-stays (λ b facts s. is_centre w.cluster b ≡ true → log_length facts ≤ most_log) (λ b some e h. stands.logs b h) (λ h. log) b (some-centre w.cluster b h).0 h;
-    cells = λ b h. each-stays (λ b facts s. is_centre w.cluster b ≡ true → cells_used facts ≤ w.cluster.cells) (λ b some e h. stands.cells b h) (λ h. cells) b (some-centre w.cluster b h).0 h;
+    cells = λ b h. each-stays (λ b facts s. is_centre w.cluster b ≡ true → FitInTurn w.cluster facts) (λ b some e h. stands.cells b h) (λ h. cells) b (some-centre w.cluster b h).0 h;
     epochs = λ b h. each-stays (λ b facts s. is_centre w.cluster b ≡ true → epoch_of facts ≤ w.events + 1) (λ b some e h. stands.epochs b h)
         (λ h. rw (epoch (facts_of w.ledger a)) (stands.epochs a h)) b (some-centre w.cluster b h).0 h;
     sent = each-append (IsSentWithin w.cluster) w.sent (map unsent step.sends) stands.sent (each-sent w.cluster step.sends formed stays.sends short);
@@ -183,14 +184,14 @@ module _ (w : World) (a : ℕ) (step : NodeStep) (stands : IsWorld w) (centre : 
 
 -- a centre goes down with a new fact, or without one
 down-stays : (w : World) (a tail : ℕ) (new : Option Fact) → IsWorld w → is_centre w.cluster a ≡ true → IsNode w.cluster a (with_new (facts_of w.ledger a) new) initial_volatile
-    → LeavesEpoch new → log_length (with_new (facts_of w.ledger a) new) ≤ most_log → cells_used (with_new (facts_of w.ledger a) new) ≤ w.cluster.cells
+    → LeavesEpoch new → log_length (with_new (facts_of w.ledger a) new) ≤ most_log → FitInTurn w.cluster (with_new (facts_of w.ledger a) new)
     → IsWorld (record (with_centre w a (down tail)) { ledger = ledger_with_fact a new w.ledger })
 down-stays w a tail new stands centre node epoch log cells = record {
   cluster_itself = stands.cluster_itself;
   sites = length-set w.centres (a - 1) (down tail) ∙ stands.sites;
   nodes = λ b h. each-put w a (down tail) new (λ b facts s. is_centre w.cluster b ≡ true → IsNode w.cluster b facts s.volatile) stands centre stands.nodes (λ h. node) b (some-centre w.cluster b h).0 h;
   logs = λ b h. each-put w a (down tail) new (λ b facts s. is_centre w.cluster b ≡ true → log_length facts ≤ most_log) stands centre stands.logs (λ h. log) b (some-centre w.cluster b h).0 h;
-  cells = λ b h. each-put w a (down tail) new (λ b facts s. is_centre w.cluster b ≡ true → cells_used facts ≤ w.cluster.cells) stands centre stands.cells (λ h. cells) b (some-centre w.cluster b h).0 h;
+  cells = λ b h. each-put w a (down tail) new (λ b facts s. is_centre w.cluster b ≡ true → FitInTurn w.cluster facts) stands centre stands.cells (λ h. cells) b (some-centre w.cluster b h).0 h;
   epochs = λ b h. each-put w a (down tail) new (λ b facts s. is_centre w.cluster b ≡ true → epoch_of facts ≤ w.events + 1) stands centre stands.epochs
       (λ h. rw (epoch (facts_of w.ledger a)) (stands.epochs a h)) b (some-centre w.cluster b h).0 h;
   sent = stands.sent;
@@ -199,7 +200,7 @@ down-stays w a tail new stands centre node epoch log cells = record {
 
 pub stopped-stays : (w : World) (a : ℕ) (fact : Fact) (stop : ℕ × Image) → IsWorld w → is_centre w.cluster a ≡ true
     → (after : Volatile) → IsNode w.cluster a (fact ∷ facts_of w.ledger a) after → LeavesEpoch (Some fact) → log_length (fact ∷ facts_of w.ledger a) ≤ most_log
-    → cells_used (fact ∷ facts_of w.ledger a) ≤ w.cluster.cells
+    → FitInTurn w.cluster (fact ∷ facts_of w.ledger a)
     → IsWorld (step_stopped w a fact stop).world
 stopped-stays w a fact stop stands centre after node epoch log cells = elim (cases_Bool (is_frame_kept stop.0 stop.1)) [
   | inl e ↦ rw e (down-stays w a _ (Some fact) stands centre (node-lost w.cluster a (fact ∷ facts_of w.ledger a) after node) epoch log cells)
@@ -223,7 +224,7 @@ pub input-stays : (w : World) (a : ℕ) (input : Input) → KeepsLog w a (step_a
 input-stays w a input keeps stands centre formed = by_result (step_at w a input) refl
   where
     by_fact : (step : NodeStep) → IsNode w.cluster a (with_new (facts_of w.ledger a) step.fact) step.after → LeavesEpoch step.fact
-        → log_length (with_new (facts_of w.ledger a) step.fact) ≤ most_log → cells_used (with_new (facts_of w.ledger a) step.fact) ≤ w.cluster.cells → IsWorld (world_after_step w a step)
+        → log_length (with_new (facts_of w.ledger a) step.fact) ≤ most_log → FitInTurn w.cluster (with_new (facts_of w.ledger a) step.fact) → IsWorld (world_after_step w a step)
         → (o : Option Fact) → step.fact ≡ o → (stop : Option (ℕ × Image)) → striking_at w a ≡ stop → IsWorld (step_happened_by w a step o).world
     by_fact step node epoch log cells whole None e stop k = subst (λ (x : Happened). IsWorld x.world) (sym (by-none w a step e)) whole
     by_fact step node epoch log cells whole (Some fact) e None k = subst (λ (x : Happened). IsWorld x.world) (sym (by-some w a step fact e k)) whole
@@ -231,7 +232,7 @@ input-stays w a input keeps stands centre formed = by_result (step_at w a input)
         rw k
         (stopped-stays w a fact stop stands centre step.after (subst (λ (o : Option Fact). IsNode w.cluster a (with_new (facts_of w.ledger a) o) step.after) e node)
         (subst LeavesEpoch e epoch) (subst (λ (o : Option Fact). log_length (with_new (facts_of w.ledger a) o) ≤ most_log) e log)
-        (subst (λ (o : Option Fact). cells_used (with_new (facts_of w.ledger a) o) ≤ w.cluster.cells) e cells))
+        (subst (λ (o : Option Fact). FitInTurn w.cluster (with_new (facts_of w.ledger a) o)) e cells))
 
     by_result : (r : Result NodeStep StepFault) → step_at w a input ≡ r → IsWorld (input_happened w a r).world
     by_result (Err fault) e = rw (refused-same w a fault) stands
@@ -352,27 +353,24 @@ booted-next : (cluster : Cluster) (facts : List Fact) → nat_le (2 ^ 32 - 1) (e
 booted-next cluster facts e fits = rw (e, fits) refl
 
 restarted-node : (cluster : Cluster) (a : ℕ) (facts : List Fact) (volatile : Volatile) → IsNode cluster a facts volatile → epoch_of facts < 2 ^ 32 - 1
-    → cells_used (Fact.Booted (epoch_of facts + 1) ∷ facts) ≤ cluster.cells → IsNode cluster a (Fact.Booted (epoch_of facts + 1) ∷ facts) initial_volatile
+    → FitInTurn cluster (Fact.Booted (epoch_of facts + 1) ∷ facts) → IsNode cluster a (Fact.Booted (epoch_of facts + 1) ∷ facts) initial_volatile
 restarted-node cluster a facts volatile node below cells =
     boot-node cluster a (payloads_of facts) (Fact.Booted (epoch_of facts + 1) ∷ facts) node.cluster_itself node.centre (payloads-formed facts node.facts_themselves.well_formed)
-    (boot-reads cluster facts node.facts_themselves.allowed (less (cells_needed (Fact.Booted (epoch_of facts + 1))) (cells_used facts) cluster.cells cells)
-    ∙ booted-next cluster facts (lt-leb (2 ^ 32 - 1) (epoch_of facts) below) (fits-cells cluster facts (Fact.Booted (epoch_of facts + 1)) cells))
-  where
-    less : (a b c : ℕ) → a + b ≤ c → b ≤ c
-    less a b c h = omega (h, arith)
+    (boot-reads cluster facts node.facts_themselves.allowed cells.0
+    ∙ booted-next cluster facts (lt-leb (2 ^ 32 - 1) (epoch_of facts) below) (fits-cells cluster facts (Fact.Booted (epoch_of facts + 1)) cells.1))
 
 pub restart-stays : (w : World) (a : ℕ) → IsWorld w → is_centre w.cluster a ≡ true → w.events < most_events
     → log_length (Fact.Booted (epoch_of (facts_of w.ledger a) + 1) ∷ facts_of w.ledger a) ≤ most_log
-    → cells_used (Fact.Booted (epoch_of (facts_of w.ledger a) + 1) ∷ facts_of w.ledger a) ≤ w.cluster.cells
+    → cells_held (facts_of w.ledger a) + cells_needed (Fact.Booted (epoch_of (facts_of w.ledger a) + 1)) ≤ w.cluster.cells
     → IsWorld (restart_happened (counted_event w) a (epoch_of (facts_of w.ledger a) + 1)).world
 restart-stays w a stands centre few log cells = record {
   cluster_itself = stands.cluster_itself;
   sites = length-set w.centres (a - 1) site ∙ stands.sites;
   nodes = λ b h. each-put w a site (Some fact) (λ b facts s. is_centre w.cluster b ≡ true → IsNode w.cluster b facts s.volatile) stands centre stands.nodes
-      (λ h. restarted-node w.cluster a (facts_of w.ledger a) (centre_at w a).volatile (stands.nodes a h) (below-last (epoch_of (facts_of w.ledger a)) w.events (stands.epochs a h) few) cells)
+      (λ h. restarted-node w.cluster a (facts_of w.ledger a) (centre_at w a).volatile (stands.nodes a h) (below-last (epoch_of (facts_of w.ledger a)) w.events (stands.epochs a h) few) (stands.cells a h, cells))
       b (some-centre w.cluster b h).0 h;
   logs = λ b h. each-put w a site (Some fact) (λ b facts s. is_centre w.cluster b ≡ true → log_length facts ≤ most_log) stands centre stands.logs (λ h. log) b (some-centre w.cluster b h).0 h;
-  cells = λ b h. each-put w a site (Some fact) (λ b facts s. is_centre w.cluster b ≡ true → cells_used facts ≤ w.cluster.cells) stands centre stands.cells (λ h. cells) b (some-centre w.cluster b h).0 h;
+  cells = λ b h. each-put w a site (Some fact) (λ b facts s. is_centre w.cluster b ≡ true → FitInTurn w.cluster facts) stands centre stands.cells (λ h. (stands.cells a h, cells)) b (some-centre w.cluster b h).0 h;
   epochs = λ b h. each-put w a site (Some fact) (λ b facts s. is_centre w.cluster b ≡ true → epoch_of facts ≤ w.events + 1 + 1) stands centre
       (λ b h. later (epoch_of (facts_of w.ledger b)) w.events (stands.epochs b h)) (λ h. next (epoch_of (facts_of w.ledger a)) w.events (stands.epochs a h)) b (some-centre w.cluster b h).0 h;
   sent = stands.sent;

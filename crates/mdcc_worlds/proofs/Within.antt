@@ -19,21 +19,21 @@ use Rattle.mdcc_option.specs.declared.faults.BeginFault.{BeginFault}
 use Rattle.mdcc_option.specs.declared.items.Part.{Part}
 use Rattle.mdcc_struct.specs.declared.options.Options.{Options}
 use Rattle.mdcc_protocol.specs.Acceptor.{new_marks, on_accept, on_prepare, on_propose}
-use Rattle.mdcc_rules.specs.AcceptorRules.{accepted_step, all_votes_sent, ask_step_by, prepared_step, proposed_step, votes_sent}
+use Rattle.mdcc_rules.specs.AcceptorRules.{accepted_step, all_votes_sent, ask_step_by, prepared_step, proposed_step, votes_sent, ask_step_after}
 use Rattle.mdcc_protocol.specs.Belongs.{ballot_belongs, cause_belongs, is_centre, mark_belongs, message_belongs, options_belong, tx_belongs}
-use Rattle.mdcc_protocol.specs.Facts.{epoch_of, heard_of, is_heard, vote_of}
+use Rattle.mdcc_protocol.specs.Facts.{epoch_of, vote_of, is_finished, is_settled, outcome_kept}
 use Rattle.mdcc_protocol.specs.Leader.{claim_of_choice, is_marked, lead, on_promise}
 use Rattle.mdcc_protocol.specs.Learner.{collided, is_learned}
 use Rattle.mdcc_protocol.specs.Manager
 use Rattle.mdcc_protocol.specs.Manager.{act_on_cause, act_on_vote, acted, choice_unled, lead_act, vote_taken}
 use Rattle.mdcc_rules.specs.ManagerRules.{act_sent, acted_step, begin_step_by, decided_step, escalate_step, opened_step, undecided_step, voted_step, watched_step}
 use Rattle.mdcc_rules.specs.LeaderRules.{lead_entries, lead_sent, lead_step_after, led_by_answer, led_of, promised_by_answer, step_of_led}
-use Rattle.mdcc_rules.specs.Messages.{to_all, to_each, to_others}
+use Rattle.mdcc_rules.specs.Messages.{to_all, to_each, to_others, to_one}
 use Rattle.mdcc_rules.specs.Node.{checked, is_own_message, message_step, step_of}
 use Rattle.mdcc_ledger.specs.Ledger.{Added, Begun, Entry, Valued}
 use Rattle.mdcc_protocol.specs.News.{is_news}
 use Rattle.mdcc_protocol.specs.Recover
-use Rattle.mdcc_rules.specs.Steps.{NodeStep, StepPart, and_then, nothing_done, only_sending, with_new}
+use Rattle.mdcc_rules.specs.Steps.{NodeStep, StepPart, and_then, nothing_done, only_sending, with_new, sending}
 use Rattle.mdcc_rules.specs.SyncRules.{give_sent_by, outcome_step_by, sync_give_step_by}
 use Rattle.mdcc_rules.specs.TickRules.{claim_led, led_or_left, manager_act, manager_ticked, recovery_act, recovery_ticked, tick_parts, tick_step}
 use Rattle.mdcc_protocol.specs.Visible.{on_outcome, on_sync_ask, on_sync_give}
@@ -152,6 +152,7 @@ module _ (cluster : Cluster) (me : ℕ) (facts : List Fact) (volatile : Volatile
 
   proposed : (s : ℕ) (choice : Choice) (answer : ProposeAnswer) → is_centre cluster s ≡ true → IsQuiet cluster me (proposed_step me volatile s choice answer)
   proposed s choice (ProposeAnswer.Known outcome) h = (tt, (h, tt), λ facts. refl)
+  proposed s choice ProposeAnswer.Finished h = (tt, (h, tt), λ facts. refl)
   proposed s choice (ProposeAnswer.Again ballot mark) h = (tt, (h, tt), λ facts. refl)
   proposed s choice (ProposeAnswer.Escalate cause) h = (tt, (h, tt), λ facts. refl)
   proposed s choice (ProposeAnswer.Vote mark) h = (tt, (h, tt), λ facts. refl)
@@ -186,7 +187,7 @@ module _ (cluster : Cluster) (me : ℕ) (facts : List Fact) (volatile : Volatile
 
   voted : (vote : Vote) → IsQuiet cluster me (voted_step (here cluster me facts) volatile vote)
   voted vote =
-      cond_both (is_heard facts vote.tx) (nothing_done volatile) _ (IsQuiet cluster me) (λ e. nothing) (λ e.
+      cond_both (is_settled facts vote.tx) (nothing_done volatile) _ (IsQuiet cluster me) (λ e. nothing) (λ e.
       cond_both (is_open volatile.manager vote.tx)
       (opened_step (here cluster me facts) volatile vote (Manager.would_decide cluster.quorums volatile.manager vote))
       (watched_step (here cluster me facts) volatile vote (Recover.would_decide cluster.quorums facts volatile.recovery vote))
@@ -225,7 +226,7 @@ module _ (cluster : Cluster) (me : ℕ) (facts : List Fact) (volatile : Volatile
 
   heard : (tx : TxId) (outcome : Outcome) → IsQuiet cluster me (outcome_step_by volatile tx (on_outcome facts tx outcome))
   heard tx outcome =
-      cond_both (is_heard facts tx) None (Some (Fact.Heard tx outcome)) (λ (o : Option Fact). IsQuiet cluster me (outcome_step_by volatile tx o))
+      cond_both (is_settled facts tx) None (Some (Fact.Heard tx outcome)) (λ (o : Option Fact). IsQuiet cluster me (outcome_step_by volatile tx o))
       (λ e. (tt, tt, λ facts. refl)) (λ e. (tt, tt, λ facts. refl))
 
   -- ---- what a leader makes
@@ -261,7 +262,9 @@ module _ (cluster : Cluster) (me : ℕ) (facts : List Fact) (volatile : Volatile
 
   claimed : (s : ℕ) (choice : Choice) → is_centre cluster s ≡ true → (o : Option Outcome) → OnStep (IsQuiet cluster me) (lead_step_after (here cluster me facts) volatile s choice o)
   claimed s choice h (Some outcome) = (tt, (h, tt), λ facts. refl)
-  claimed s choice h None = step-led (led_of (here cluster me facts) volatile (claim_of_choice choice)) (led-here volatile (claim_of_choice choice))
+  claimed s choice h None =
+      cond_both (is_finished facts choice.tx) (Ok (sending volatile (to_one me s (Message.Finished choice.tx)))) (step_of_led (led_of (here cluster me facts) volatile (claim_of_choice choice))) (OnStep (IsQuiet cluster me))
+      (λ e. (tt, (h, tt), λ facts. refl)) (λ e. step-led (led_of (here cluster me facts) volatile (claim_of_choice choice)) (led-here volatile (claim_of_choice choice)))
 
   promised : (key : Key) (r : Result (PromiseAnswer × Leading) LeadFault) → IsQuietLed cluster me (promised_by_answer cluster.quorums me volatile key r)
   promised key (Err fault) = tt
@@ -291,9 +294,9 @@ module _ (cluster : Cluster) (me : ℕ) (facts : List Fact) (volatile : Volatile
   votes-sent : (key : Key) (version : ℕ) (ballot : Ballot) (options : Options) → is_centre cluster ballot.centre ≡ true → AllByRecursion OfCentre options
       → AllByRecursion (GoesWithin cluster) (all_votes_sent me facts key version ballot options)
   votes-sent key version ballot options h k =
-      each-flat_map OfCentre (GoesWithin cluster) (votes_sent me key version ballot) (filter (λ e. not (is_heard facts e.0)) options)
+      each-flat_map OfCentre (GoesWithin cluster) (votes_sent me key version ballot) (filter (λ e. not (is_settled facts e.0)) options)
       (λ e of. vote-sent key version ballot e h (and_parts (tx_belongs cluster e.0) (mark_belongs cluster e.1) of).0)
-      (each-kept OfCentre (λ e. not (is_heard facts e.0)) options k)
+      (each-kept OfCentre (λ e. not (is_settled facts e.0)) options k)
 
   accepted : (l : ℕ) (key : Key) (version : ℕ) (ballot : Ballot) (options : Options) (answer : AcceptAnswer) → is_centre cluster l ≡ true
       → is_centre cluster ballot.centre ≡ true → AllByRecursion OfCentre options
@@ -304,11 +307,16 @@ module _ (cluster : Cluster) (me : ℕ) (facts : List Fact) (volatile : Volatile
   accepted l key version ballot options AcceptAnswer.Vote h c k =
       (tt, votes-sent key version ballot (new_marks facts key version ballot options) c (each-kept OfCentre _ options k), λ facts. refl)
 
-  asked : (s : ℕ) (tx : TxId) (key : Key) (version : ℕ) (o : Option Outcome) (vote : Option (Ballot × Mark)) → is_centre cluster s ≡ true
-      → IsQuiet cluster me (ask_step_by me volatile s tx key version o vote)
-  asked s tx key version (Some outcome) vote h = (tt, (h, tt), λ facts. refl)
-  asked s tx key version None (Some vote) h = (tt, (h, tt), λ facts. refl)
-  asked s tx key version None None h = nothing
+  asked : (s : ℕ) (tx : TxId) (key : Key) (version : ℕ) (o : Option Outcome) → is_centre cluster s ≡ true
+      → IsQuiet cluster me (ask_step_by me facts volatile s tx key version o)
+  asked s tx key version (Some outcome) h = (tt, (h, tt), λ facts. refl)
+  asked s tx key version None h =
+      cond_both (is_finished facts tx) (sending volatile (to_one me s (Message.Finished tx))) (ask_step_after me volatile s tx key version (vote_of facts key version tx)) (IsQuiet cluster me)
+      (λ e. (tt, (h, tt), λ facts. refl)) (λ e. by_vote (vote_of facts key version tx))
+    where
+      by_vote : (vote : Option (Ballot × Mark)) → IsQuiet cluster me (ask_step_after me volatile s tx key version vote)
+      by_vote (Some vote) = (tt, (h, tt), λ facts. refl)
+      by_vote None = nothing
 
   given : (give : Give) → IsQuiet cluster me (sync_give_step_by volatile (on_sync_give facts give))
   given give =
@@ -324,7 +332,7 @@ module _ (cluster : Cluster) (me : ℕ) (facts : List Fact) (volatile : Volatile
       voted (record { from = s; key = key; version = version; ballot = ballot; tx = tx; mark = mark })
   message-quiet s (Message.Escalate key version tx cause) h b w =
       escalated s tx key cause h w.cause_itself (and_parts (tx_belongs cluster tx) (cause_belongs cluster cause) b).1
-  message-quiet s (Message.Lead choice) h b w = claimed s choice h (heard_of facts choice.tx)
+  message-quiet s (Message.Lead choice) h b w = claimed s choice h (outcome_kept facts choice.tx)
   message-quiet s (Message.Prepare key version through ballot) h b w = prepared s key version ballot (on_prepare facts key version through ballot) h
   message-quiet s (Message.Promise key version through ballot reported votes) h b w =
       let promise : Promise = record { key = key; version = version; through = through; ballot = ballot; reported = reported; votes = votes } in
@@ -336,9 +344,11 @@ module _ (cluster : Cluster) (me : ℕ) (facts : List Fact) (volatile : Volatile
       (all-each (λ (e : TxId × Mark). tx_belongs cluster e.0 && mark_belongs cluster e.1) options both.1)
   message-quiet s (Message.Refused key version ballot promised) h b w = (tt, tt, λ facts. refl)
   message-quiet s (Message.Outcome tx outcome) h b w = heard tx outcome
-  message-quiet s (Message.Ask tx key version) h b w = asked s tx key version (heard_of facts tx) (vote_of facts key version tx) h
+  message-quiet s (Message.Ask tx key version) h b w = asked s tx key version (outcome_kept facts tx) h
   message-quiet s (Message.SyncAsk key) h b w = (tt, give-within s h (on_sync_ask facts key), λ facts. refl)
   message-quiet s (Message.SyncGive key version item adds) h b w = given (record { key = key; version = version; item = item; adds = adds })
+  message-quiet s (Message.Mark centre epoch seq) h b w = nothing
+  message-quiet s (Message.Finished tx) h b w = (tt, tt, λ facts. refl)
   message-quiet s (Message.ClientRead serial key) h b w = nothing
   message-quiet s (Message.ClientBegin serial parts) h b w = nothing
   message-quiet s (Message.ClientAnswer serial answer) h b w = nothing
@@ -392,6 +402,7 @@ module _ (cluster : Cluster) (me : ℕ) (facts : List Fact) (volatile : Volatile
   pub step-quiet : (input : Input) → IsWellFormedInput input → is_begin input ≡ false → OnStep (IsQuiet cluster me) (step_of (here cluster me facts) volatile input)
   step-quiet (Input.Message envelope) w other = envelope-quiet envelope w.message
   step-quiet Input.Tick w other = tick-quiet
+  step-quiet Input.Sweep w other = nothing
   step-quiet (Input.Read key) w other = (tt, tt, λ facts. refl)
   step-quiet (Input.Begin parts) w other = absurd (cc)
 
@@ -419,6 +430,7 @@ module _ (cluster : Cluster) (me : ℕ) (facts : List Fact) (volatile : Volatile
   pub step-stays : (input : Input) → IsWellFormedInput input → OnStep (IsStaying cluster) (step_of (here cluster me facts) volatile input)
   step-stays (Input.Message envelope) w = on_stays (step_of (here cluster me facts) volatile (Input.Message envelope)) (envelope-quiet envelope w.message)
   step-stays Input.Tick w = quiet-stays cluster me (tick_step (here cluster me facts) volatile) tick-quiet
+  step-stays Input.Sweep w = quiet-stays cluster me (nothing_done volatile) nothing
   step-stays (Input.Read key) w = (record { entries = λ ledger a. refl; sends = tt }, λ facts. refl)
   step-stays (Input.Begin parts) w = begun-within parts (Manager.begin me (epoch_of facts) facts volatile.manager parts)
 

@@ -7,7 +7,7 @@ use Rattle.mdcc_protocol.specs.Belongs.{is_centre}
 use Rattle.mdcc_protocol.specs.Facts.{epoch_of}
 use Rattle.mdcc_ledger.specs.Ledger.{facts_of}
 use Rattle.mdcc_simulation.specs.State.{Happened, World, counted_event, is_up_at}
-use Rattle.mdcc_simulation.specs.Centres.{crash_happened, restart_happened, stop_happened, tick_line}
+use Rattle.mdcc_simulation.specs.Centres.{crash_happened, restart_happened, stop_happened, tick_line, sweep_line}
 use Rattle.mdcc_simulation.specs.Events.{after_event}
 use Rattle.mdcc_simulation.specs.Limits.{passed_cells_limit, input_applied, is_past_events, limit_if, passed_log_limit, most_events, unless_limit, with_lines}
 use Rattle.mdcc_simulation.specs.Clients.{read_happened}
@@ -38,6 +38,10 @@ if_open (Err fault) r = Err fault
 abbrev pub tick_reported : World → ℕ → Result Happened EventFault
 tick_reported w a = with_lines (tick_line a) (input_applied (counted_event w) a Input.Tick)
 
+-- what comes of a sweep
+abbrev pub sweep_reported : World → ℕ → Result Happened EventFault
+sweep_reported w a = with_lines (sweep_line a) (input_applied (counted_event w) a Input.Sweep)
+
 -- the epoch that a restart begins
 abbrev pub restart_epoch : World → ℕ → ℕ
 restart_epoch w a = epoch_of (facts_of w.ledger a) + 1
@@ -57,6 +61,10 @@ ReadsHappen =
 -- and a tick line is this
 abbrev pub TicksHappen : Type 0
 TicksHappen = (w : World) (a : ℕ) → after_event w (Event.Tick a) ≡ if_open (at_centre w a) (tick_reported w a)
+
+-- and a sweep line
+abbrev pub SweepsHappen : Type 0
+SweepsHappen = (w : World) (a : ℕ) → after_event w (Event.Sweep a) ≡ if_open (at_centre w a) (sweep_reported w a)
 
 -- and so is a crash line
 abbrev pub CrashesHappen : Type 0

@@ -10,7 +10,7 @@ use Rattle.mdcc_protocol.specs.Belongs.{is_centre}
 use Rattle.mdcc_protocol.specs.Facts.{epoch_of}
 use Rattle.mdcc_protocol.specs.IsCluster.{IsCluster}
 use Rattle.mdcc_ledger.specs.Ledger.{facts_of}
-use Rattle.mdcc_messages.specs.Lengths.{cells_used, log_length}
+use Rattle.mdcc_messages.specs.Lengths.{log_length}
 use Rattle.mdcc_messages.specs.WellFormed.{IsWellFormedEnvelope, IsWellFormedRead}
 use Rattle.mdcc_messages.specs.Mailbox.{Sent, with_delivered}
 use Rattle.mdcc_simulation.specs.State.{Happened, World, centre_at, counted_event, first_world}
@@ -18,7 +18,7 @@ use Rattle.mdcc_simulation.specs.Centres.{crash_happened, stop_happened}
 use Rattle.mdcc_simulation.specs.Limits.{input_applied, most_events, most_log}
 use Rattle.mdcc_simulation.specs.Clients.{read_happened}
 use Rattle.mdcc_rules.specs.declared.node.Input.{Input}
-use Rattle.mdcc_steps.specs.NodeInvariant.{IsNode, accept_length}
+use Rattle.mdcc_steps.specs.NodeInvariant.{IsNode, accept_length, FitInTurn}
 use Rattle.mdcc_steps.specs.Inputs.{IsWellFormedInput}
 use Rattle.mdcc_worlds.specs.EventEffects.{restarted}
 use Rattle.mdcc_worlds.specs.StepSends.{GoesWithin}
@@ -33,14 +33,14 @@ pub record IsSentWithin (cluster : Cluster) (sent : Sent) : Type 0 where
 abbrev pub IsWellFormedKnown : Known → Type 0
 IsWellFormedKnown known = IsWellFormedRead known.key known.token known.item
 
--- what each centre added and keeps is that of a node, also where it is down; its log is within its limit, and its facts lie in the
--- cells of a node; its epochs are no more than the events and one; and all messages and reads are such
+-- what each centre added and keeps is that of a node, also where it is down; its log is within its limit, and its facts had room in
+-- turn in the cells of a node; its epochs are no more than the events and one; and all messages and reads are such
 pub record IsWorld (w : World) : Type 0 where
   pub cluster_itself : IsCluster w.cluster
   pub sites : length w.centres ≡ w.cluster.quorums.centres
   pub nodes : (a : ℕ) → is_centre w.cluster a ≡ true → IsNode w.cluster a (facts_of w.ledger a) (centre_at w a).volatile
   pub logs : (a : ℕ) → is_centre w.cluster a ≡ true → log_length (facts_of w.ledger a) ≤ most_log
-  pub cells : (a : ℕ) → is_centre w.cluster a ≡ true → cells_used (facts_of w.ledger a) ≤ w.cluster.cells
+  pub cells : (a : ℕ) → is_centre w.cluster a ≡ true → FitInTurn w.cluster (facts_of w.ledger a)
   pub epochs : (a : ℕ) → is_centre w.cluster a ≡ true → epoch_of (facts_of w.ledger a) ≤ w.events + 1
   pub sent : AllByRecursion (IsSentWithin w.cluster) w.sent
   pub reads : AllByRecursion IsWellFormedKnown w.reads

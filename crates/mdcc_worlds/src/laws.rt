@@ -2,7 +2,7 @@
 ghost use Rattle.mdcc_worlds.specs.BeginEffects.{BeginsHappen, PartsAreWellFormed};
 ghost use Rattle.mdcc_worlds.specs.DeliveryProgress.{DeliveriesHappen, DeliversBegin, DeliversEnd, DeliversGoOn, DeliversStop};
 ghost use Rattle.mdcc_worlds.specs.Events.{EventsStay};
-ghost use Rattle.mdcc_worlds.specs.EventEffects.{CrashesHappen, ReadsHappen, RestartsHappen, StopsHappen, TicksHappen};
+ghost use Rattle.mdcc_worlds.specs.EventEffects.{CrashesHappen, ReadsHappen, RestartsHappen, StopsHappen, SweepsHappen, TicksHappen};
 ghost use Rattle.mdcc_worlds.specs.StepSends.{OthersBeginNothing, StepsStayWithin};
 ghost use Rattle.mdcc_worlds.specs.SettleProgress.{SettlesBegin, SettlesBreak, SettlesEnd, SettlesFail, SettlesGoOn, SettlesStop};
 ghost use Rattle.mdcc_worlds.specs.WorldInvariant.{CountedStays, CrashStays, DeliveredStays, FirstWorldIsWorld, ReadStays, RestartStays, StopStays, WorldStays};
@@ -17,8 +17,8 @@ pub fn steps_stay_within()
 
 /// In a world each centre has a node, also one that is down, and all messages are well-formed and for
 /// centres of the cluster: at first, after each input of a centre, after each delivery and read, after a
-/// crash and a restart, and after a stop is armed. Logs stay within their limit, the facts of a centre lie
-/// in the cells of its node, and each message that brings a structure is short enough for a frame of a log.
+/// crash and a restart, and after a stop is armed. Logs stay within their limit, the facts of a centre had
+/// room in turn in the cells of its node, and each message that brings a structure is short enough for a frame of a log.
 pub fn worlds_stay()
     ensures first { FirstWorldIsWorld }
     ensures input { WorldStays }
@@ -35,13 +35,14 @@ pub fn events_stay()
     ensures { EventsStay }
 {}
 
-/// What a read, a tick, a crash, a restart, a stop, a delivery and a begin do, and for which cause nothing
+/// What a read, a tick, a sweep, a crash, a restart, a stop, a delivery and a begin do, and for which cause nothing
 /// happens: the causes stand in the order in which they are asked. An input of a centre comes to its
 /// step, unless that would pass a limit: that of the log is asked before that of the messages. One whose
 /// append stops sends nothing.
 pub fn events_happen()
     ensures read { ReadsHappen }
     ensures tick { TicksHappen }
+    ensures sweep { SweepsHappen }
     ensures crash { CrashesHappen }
     ensures restart { RestartsHappen }
     ensures stop { StopsHappen }

@@ -9,7 +9,7 @@ pub returns-clause-ready : goal.returns-clause-ready
 returns-clause-ready c = record {
   quorums = omega arith;
   sites = refl;
-  undecided = record { centre = refl; unstopped = refl; uncounted = record { opened = refl; none = tt }; unheard = refl; uncrowded = refl };
+  undecided = record { centre = refl; unstopped = refl; uncounted = record { opened = refl; none = tt }; unheard = refl; unfinished = refl; uncrowded = refl };
   choices = record { some = omega arith; own = (refl, (refl, tt)); apart = ((refl, tt), (tt, tt)) };
   belong = (refl, (refl, tt));
   quorum = record { size = refl; within = (omega arith, (omega arith, (omega arith, tt))); apart = ((refl, (refl, tt)), ((refl, tt), (tt, tt))) };

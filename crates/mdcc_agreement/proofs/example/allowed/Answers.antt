@@ -22,7 +22,7 @@ three_meet = record {
 }
 
 pub returns-clause-ledger : goal.returns-clause-ledger
-returns-clause-ledger c = record { of_cluster = three_meet; allowed = ledger_shown three ledger refl; short = lit≤ tt }
+returns-clause-ledger c = record { of_cluster = three_meet; allowed = ledger_shown three ledger refl; few = lit≤ tt }
 
 pub returns-clause-chosen : goal.returns-clause-chosen
 returns-clause-chosen c = refl
@@ -32,3 +32,6 @@ returns-clause-committed c = refl
 
 pub returns-clause-held : goal.returns-clause-held
 returns-clause-held c = refl
+
+pub returns-clause-heard : goal.returns-clause-heard
+returns-clause-heard c = refl

@@ -7,6 +7,7 @@ use Rattle.mdcc_journal.proofs.counts.well_formed_facts_have_counts.Goals as goa
 
 has_counts : (fact : Fact) → IsWellFormedFact fact → HasCounts fact
 has_counts (facts.Booted epoch) w = tt
+has_counts (facts.Floor origin era upto) w = tt
 has_counts (facts.Promised key low high ballot) w = tt
 has_counts (facts.Voted key version ballot options offered) w = w.options_itself.count
 has_counts (facts.Heard tx outcome) w = tt

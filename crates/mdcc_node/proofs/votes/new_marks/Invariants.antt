@@ -1,6 +1,9 @@
-use Rattle.std.proofs.Common.{◌≡◌, ◌++◌, drop, filter}
-use Rattle.mdcc_node.proofs.Marks.{is_new}
+use Rattle.std.proofs.Common.{◌≡◌, ◌++◌, List, drop, filter}
+use Rattle.mdcc_messages.specs.declared.facts.Fact.{Fact}
+use Rattle.mdcc_node.specs.StepParts.{is_new}
 use Rattle.mdcc_node.proofs.votes.new_marks.Given as goal
 
 abbrev pub invariant-loop-place : goal.invariant-loop-place
-invariant-loop-place l = l.marks ++ filter (is_new l.votes) (drop l.place l.options) ≡ filter (is_new l.votes) l.options
+invariant-loop-place g l =
+    (facts : List Fact) → g.S.FactStore.stands l.store facts
+    → l.marks ++ filter (λ e. is_new facts l.votes e.0) (drop l.place l.options) ≡ filter (λ e. is_new facts l.votes e.0) l.options

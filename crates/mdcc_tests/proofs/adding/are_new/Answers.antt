@@ -3,4 +3,4 @@ use Rattle.mdcc_tests.proofs.adding.are_new.Goals as goal
 
 pub returns : goal.returns
 returns g c = λ facts h zero.
-    none_voted facts c.args.key.now c.args.version c.args.ballot c.args.options.now c.count_voted.result (c.count_voted.ensures facts h) zero
+    none_voted facts c.args.key.now c.args.version c.args.ballot c.args.options.now c.count_past.result (c.count_past.ensures facts h) zero

@@ -1,4 +1,4 @@
-use Rattle.mdcc_worlds.proofs.Events.{begin-is, crash-is, delivery-is, input-is, read-is, restart-is, stop-is, tick-is}
+use Rattle.mdcc_worlds.proofs.Events.{begin-is, crash-is, delivery-is, input-is, read-is, restart-is, stop-is, sweep-is, tick-is}
 use Rattle.mdcc_worlds.proofs.laws.events_happen.Goals as goal
 
 pub returns-clause-read : goal.returns-clause-read
@@ -6,6 +6,9 @@ returns-clause-read c = read-is
 
 pub returns-clause-tick : goal.returns-clause-tick
 returns-clause-tick c = tick-is
+
+pub returns-clause-sweep : goal.returns-clause-sweep
+returns-clause-sweep c = sweep-is
 
 pub returns-clause-crash : goal.returns-clause-crash
 returns-clause-crash c = crash-is

@@ -4,7 +4,7 @@ use Rattle.mdcc_escrow.specs.Weights.{no_load}
 use Rattle.mdcc_fact_folds.specs.Chains.{is_of_instance}
 use Rattle.mdcc_fact_folds.specs.Live.{load_steps}
 use Rattle.mdcc_fact_folds.proofs.Steps.{load-steps}
-use Rattle.mdcc_protocol.specs.Facts.{is_void}
+use Rattle.mdcc_protocol.specs.Plain.{plain_is_void}
 use Rattle.mdcc_fact_index.specs.Active.{is_active}
 use Rattle.mdcc_index.specs.Stores.{Represents}
 use Rattle.mdcc_index.proofs.Active.{load-active}
@@ -24,5 +24,5 @@ returns c facts kept =
     let active = filter (is_of_instance key version) (filter is_active facts) in
     c.load.ensures active (c.facts_of-walk.ensures is_active facts inside.cells inside.active)
     ∙ ap (λ void. load_steps c.args.seen.now void key version no_load active) (void-told c.args.self.now facts kept)
-    ∙ load-active (is_of_instance key version) key version c.args.seen.now (is_void facts) no_load facts
+    ∙ load-active (is_of_instance key version) key version c.args.seen.now (plain_is_void facts) no_load facts
     ∙ sym (load-steps (is_of_instance key version) key version c.args.seen.now (λ fact is. is) facts kept.added.ordered)

@@ -1,5 +1,5 @@
 use Rattle.std.proofs.Common.{◌++◌, ◌∷◌, [], take, sym, ap, ◌∙◌, add-one}
-use Rattle.mdcc_protocol.specs.Facts.{unresolved_of}
+use Rattle.mdcc_protocol.specs.Plain.{plain_unresolved_of}
 use Rattle.mdcc_index.proofs.Marked.{take-none, take-one}
 use Rattle.mdcc_index.proofs.pool_facts.PoolFacts.unresolved_all.Goals.{in-Some+in_ok-push, in_default}
 use Rattle.mdcc_index.proofs.pool_facts.PoolFacts.unresolved_all.Goals as goal
@@ -10,10 +10,10 @@ loop-place-preserved c facts kept =
     elim c.match-unresolved.branch [
       | in-Some+in_ok-push w ↦
           w.all-is ∙ w.in_ok-push.ensures.ok ∙ ap (λ all. all ++ w.in-Some.entry ∷ []) before
-          ∙ sym (take-one (unresolved_of facts) c.loop-place.place w.in-Some.entry (sym (c.unresolved.ensures facts kept) ∙ w.in-Some.is))
-          ∙ ap (λ n. take n (unresolved_of facts)) (sym (add-one c.loop-place.place))
+          ∙ sym (take-one (plain_unresolved_of facts) c.loop-place.place w.in-Some.entry (sym (c.unresolved.ensures facts kept) ∙ w.in-Some.is))
+          ∙ ap (λ n. take n (plain_unresolved_of facts)) (sym (add-one c.loop-place.place))
       | in_default w ↦
           w.all-is ∙ before
-          ∙ sym (take-none (unresolved_of facts) c.loop-place.place (sym (c.unresolved.ensures facts kept) ∙ w.in_default.is))
-          ∙ ap (λ n. take n (unresolved_of facts)) (sym (add-one c.loop-place.place))
+          ∙ sym (take-none (plain_unresolved_of facts) c.loop-place.place (sym (c.unresolved.ensures facts kept) ∙ w.in_default.is))
+          ∙ ap (λ n. take n (plain_unresolved_of facts)) (sym (add-one c.loop-place.place))
     ]

@@ -16,8 +16,8 @@ returns-in-Some-clause-answer g c facts leader holds =
     rw (← c.structure_or-last.ensures) (sym c.has_mark.ensures ∙ c.if-has_mark.false) in
     let key : c.self.inside.key ≡ c.args.self.now.key = ap (λ (l : Lead). l.key) c.self.view_is in
     let mark = mark_of_choice c.args.cluster.now facts c.args.self.now.key c.args.claim.now.version c.structure_or-last.result.now c.args.claim.now.choice in
-    let given : Some c.in-Some.mark ≡ judged c.structure_or-last.result.now mark = rw (← key) (sym c.in-Some.is ∙ c.judge.ensures facts holds) in
-    let picked = judged-some c.structure_or-last.result.now mark c.in-Some.mark given in
+    let given : Some c.in-Some.mark ≡ judged facts c.args.claim.now.tx c.structure_or-last.result.now mark = rw (← key) (sym c.in-Some.is ∙ c.judge.ensures facts holds) in
+    let picked = judged-some facts c.args.claim.now.tx c.structure_or-last.result.now mark c.in-Some.mark given in
     let put = led_on-put c.args.cluster.now facts leader c.args.self.now c.args.claim.now c.in-Some.mark new (rw (← c.structure_or-last.ensures) picked.0) (rw (← c.structure_or-last.ensures) picked.1) in
     IfOk-map _ _ c.send_with.result (λ answer is. is ∙ sym put.0) c.send_with.ensures.answer
 
@@ -27,7 +27,7 @@ returns-in-Some-clause-ok g c facts holds =
     rw (← c.structure_or-last.ensures) (sym c.has_mark.ensures ∙ c.if-has_mark.false) in
     let key : c.self.inside.key ≡ c.args.self.now.key = ap (λ (l : Lead). l.key) c.self.view_is in
     let mark = mark_of_choice c.args.cluster.now facts c.args.self.now.key c.args.claim.now.version c.structure_or-last.result.now c.args.claim.now.choice in
-    let given : Some c.in-Some.mark ≡ judged c.structure_or-last.result.now mark = rw (← key) (sym c.in-Some.is ∙ c.judge.ensures facts holds) in
-    let picked = judged-some c.structure_or-last.result.now mark c.in-Some.mark given in
+    let given : Some c.in-Some.mark ≡ judged facts c.args.claim.now.tx c.structure_or-last.result.now mark = rw (← key) (sym c.in-Some.is ∙ c.judge.ensures facts holds) in
+    let picked = judged-some facts c.args.claim.now.tx c.structure_or-last.result.now mark c.in-Some.mark given in
     let put = led_on-put c.args.cluster.now facts (record { leads = []; refused_rounds = []; last_rounds = [] }) c.args.self.now c.args.claim.now c.in-Some.mark new (rw (← c.structure_or-last.ensures) picked.0) (rw (← c.structure_or-last.ensures) picked.1) in
     OnOk-map c.send_with.result (λ is. is ∙ sym put.1) c.send_with.ensures.ok

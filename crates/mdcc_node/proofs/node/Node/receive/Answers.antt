@@ -2,7 +2,9 @@ use Rattle.std.proofs.Common.{◌≡◌, List, subst, true}
 use Rattle.mdcc_base.specs.Unless.{GivesUnless}
 use Rattle.mdcc_messages.specs.declared.facts.Fact.{Fact}
 use Rattle.mdcc_node.proofs.Ending.{ends}
-use Rattle.mdcc_node.proofs.Planned.{memory-left, plan-fits, plan-given, plan-left}
+use Rattle.mdcc_node.proofs.Led.{residual}
+use Rattle.mdcc_node.proofs.Planned.{fault-given, fault-left, memory-left, plan-fits, plan-given, plan-left}
+use Rattle.mdcc_node.proofs.Standing.{memory_always}
 use Rattle.mdcc_node.specs.MethodEffects.{Spends}
 use Rattle.mdcc_node.specs.StepPlans.{kept, written}
 use Rattle.mdcc_node.specs.StepAnswers.{is_step_memory, room_of, if_plan_added}
@@ -55,3 +57,18 @@ pub returns-clause-spent : goal.returns-clause-spent
 returns-clause-spent g c =
     subst (λ (held : g.row.S.Denot). Spends g.S.FactStore.room g.S.FactStore.cells_for held (written c.add_planned.result c.add_planned.new.step) c.add_planned.new.self.store)
     c.in_ok-take.ensures.plan.store c.add_planned.ensures.spent
+
+pub returns-in_err-take-clause-does : goal.returns-in_err-take-clause-does
+returns-in_err-take-clause-does g c =
+    let stands = g.S.FactStore.stands in
+    let room = room_of g.S.FactStore.room g.S.FactStore.cells_for c.args.self.now.store in
+    let fault = c.in_err-take.field-0.0 in
+    let same = residual c.from_residual.result fault c.from_residual.ensures.1 in
+    record {
+      answer = λ cluster me facts volatile known.
+          rw same (fault-given room facts fault (message_step (here cluster me facts) volatile c.args.from c.args.message.now) (c.in_err-take.ensures.plan.answer cluster me facts volatile known));
+      left = λ cluster me facts volatile known.
+          rw same (fault-left stands c.take.new.self cluster me facts volatile room fault (message_step (here cluster me facts) volatile c.args.from c.args.message.now)
+          (c.in_err-take.ensures.plan.answer cluster me facts volatile known) (c.in_err-take.ensures.plan.left cluster me facts volatile known));
+      memory = λ facts store. memory_always (written c.from_residual.result _) _ (rw c.in_err-take.ensures.plan.store store);
+    }

@@ -24,3 +24,12 @@ returns-in_ok-asked-in-Ask-clause-plan g c =
 
 pub returns-in_ok-asked-in-Ask-clause-fact : goal.returns-in_ok-asked-in-Ask-clause-fact
 returns-in_ok-asked-in-Ask-clause-fact g c = λ facts store. rw c.in_ok-asked-in-Ask.ensures.fact tt
+
+pub returns-in-Finished-clause-plan : goal.returns-in-Finished-clause-plan
+returns-in-Finished-clause-plan g c =
+    let m = c.in-Finished in
+    record {
+      answer = λ cluster me facts volatile known. rw m.is (rw c.requires.blank refl);
+      left = λ cluster me facts volatile known. rw m.is (c.close.ensures.closed cluster me facts volatile known);
+      store = c.close.ensures.store;
+    }

@@ -20,4 +20,4 @@ returns-in_ok-decide-in-Some-clause-plan g c = record {
 
 pub returns-in_ok-decide-in-Some-clause-fact : goal.returns-in_ok-decide-in-Some-clause-fact
 returns-in_ok-decide-in-Some-clause-fact g c = λ facts store.
-    rw (c.in_ok-decide-in-Some.ensures initial_volatile) (heard-follows facts initial_volatile c.args.vote.now.tx c.in-Some.decided.1 (c.requires.unheard facts store))
+    rw (c.in_ok-decide-in-Some.ensures initial_volatile) (heard-follows facts initial_volatile c.args.vote.now.tx c.in-Some.decided.1 (c.requires.unsettled facts store))

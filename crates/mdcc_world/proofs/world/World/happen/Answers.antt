@@ -34,6 +34,16 @@ returns-in-Tick-clause-left c w like =
 pub returns-in-Tick-clause-few_left : goal.returns-in-Tick-clause-few_left
 returns-in-Tick-clause-few_left c = left-few c.tick.result c.args.self.now c.tick.new.self c.args.lines.now c.tick.new.lines c.requires.few c.tick.ensures.kept
 
+pub returns-in-Sweep-clause-happens : goal.returns-in-Sweep-clause-happens
+returns-in-Sweep-clause-happens c w like = rw c.in-Sweep.is (c.sweep.ensures.happens w like)
+
+pub returns-in-Sweep-clause-left : goal.returns-in-Sweep-clause-left
+returns-in-Sweep-clause-left c w like =
+    rw c.in-Sweep.is (left-unmoved c.sweep.result c.args.self.now c.sweep.new.self c.args.lines.now c.sweep.new.lines w like c.sweep.ensures.kept)
+
+pub returns-in-Sweep-clause-few_left : goal.returns-in-Sweep-clause-few_left
+returns-in-Sweep-clause-few_left c = left-few c.sweep.result c.args.self.now c.sweep.new.self c.args.lines.now c.sweep.new.lines c.requires.few c.sweep.ensures.kept
+
 pub returns-in-Crash-clause-happens : goal.returns-in-Crash-clause-happens
 returns-in-Crash-clause-happens c w like = rw c.in-Crash.is (c.crash.ensures.happens w like)
 
@@ -73,6 +83,9 @@ returns-in-Begin-clause-limited c w like = rw c.in-Begin.is (limited-none c.begi
 pub returns-in-Tick-clause-limited : goal.returns-in-Tick-clause-limited
 returns-in-Tick-clause-limited c w like = rw c.in-Tick.is (limited-none c.tick.result c.args.lines.now c.tick.new.lines c.tick.ensures.untold)
 
+pub returns-in-Sweep-clause-limited : goal.returns-in-Sweep-clause-limited
+returns-in-Sweep-clause-limited c w like = rw c.in-Sweep.is (limited-none c.sweep.result c.args.lines.now c.sweep.new.lines c.sweep.ensures.untold)
+
 pub returns-in-Crash-clause-limited : goal.returns-in-Crash-clause-limited
 returns-in-Crash-clause-limited c w like = rw c.in-Crash.is (limited-none c.crash.result c.args.lines.now c.crash.new.lines c.crash.ensures.untold)
 
@@ -93,6 +106,10 @@ returns-in-Begin-clause-cut c w like =
 pub returns-in-Tick-clause-cut : goal.returns-in-Tick-clause-cut
 returns-in-Tick-clause-cut c w like =
     rw c.in-Tick.is (memory-untold c.tick.result (λ (same : c.tick.new.lines ≡ c.args.lines.now). cut-none c.tick.new.self c.args.lines.now c.tick.new.lines w _ (λ n. refl) same) c.tick.ensures.untold)
+
+pub returns-in-Sweep-clause-cut : goal.returns-in-Sweep-clause-cut
+returns-in-Sweep-clause-cut c w like =
+    rw c.in-Sweep.is (memory-untold c.sweep.result (λ (same : c.sweep.new.lines ≡ c.args.lines.now). cut-none c.sweep.new.self c.args.lines.now c.sweep.new.lines w _ (λ n. refl) same) c.sweep.ensures.untold)
 
 pub returns-in-Crash-clause-cut : goal.returns-in-Crash-clause-cut
 returns-in-Crash-clause-cut c w like =

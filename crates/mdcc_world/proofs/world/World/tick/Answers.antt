@@ -13,23 +13,23 @@ returns-in_err-at_centre-clause-happens c w like =
     rw (residual c.from_residual.result fault c.from_residual.ensures.1)
     (refused-is _ (at_centre w a) (tick_reported w a) fault (tick-is w a) (c.in_err-at_centre.ensures.centre w like))
 
-pub apply_tick-requires : goal.apply_tick-requires
-apply_tick-requires c =
+pub apply_timed-requires : goal.apply_timed-requires
+apply_timed-requires c =
     let w = c.requires.0 in
     record { some = (counted_event w, Input.Tick, c.in_ok-made.ensures.made w c.requires.1) }
 
 pub returns-clause-happens : goal.returns-clause-happens
 returns-clause-happens c w like =
     let a = c.args.centre in
-    opened c.apply_tick.result _ _ _ _ (at_centre w a) (tick_reported w a) (tick-is w a)
-    (c.in_ok-at_centre.ensures.centre w like) (c.apply_tick.ensures.happens (counted_event w) Input.Tick (c.in_ok-made.ensures.made w like))
+    opened c.apply_timed.result _ _ _ _ (at_centre w a) (tick_reported w a) (tick-is w a)
+    (c.in_ok-at_centre.ensures.centre w like) (c.apply_timed.ensures.happens (counted_event w) Input.Tick (c.in_ok-made.ensures.made w like))
 
 pub returns-clause-few : goal.returns-clause-few
 returns-clause-few c =
-    let made = c.run_tick.ensures.few in
-    let same = c.apply_tick.ensures.events in
+    let made = c.run_timed.ensures.few in
+    let same = c.apply_timed.ensures.events in
     let few = c.in_ok-at_centre.ensures.few in
-    on-ok c.apply_tick.result (omega (made, same, few, arith))
+    on-ok c.apply_timed.result (omega (made, same, few, arith))
 
 pub returns-clause-kept : goal.returns-clause-kept
-returns-clause-kept c = free-refusal c.apply_tick.result _ c.apply_tick.ensures.free
+returns-clause-kept c = free-refusal c.apply_timed.result _ c.apply_timed.ensures.free
