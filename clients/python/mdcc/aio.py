@@ -26,9 +26,9 @@ class AsyncTransaction(Draft):
     Where the block ends with an error, nothing is begun. Where nothing was committed, NotCommitted is raised at its end. `result` has what
     came of it."""
 
-    def __init__(self, engine: Engine, order: Optional[str], note: bytes, centre: Optional[int], prefix: str):
+    def __init__(self, engine: Engine, order: Optional[str], note: bytes, centre: Optional[int], prefix: str, again: bool = False):
         super().__init__(engine.configuration, order, note, prefix)
-        self.engine, self.centre = engine, centre
+        self.engine, self.centre, self.again = engine, centre, again
         self.result: Optional[Result] = None
 
     async def read(self, key: str) -> Record:
@@ -54,7 +54,7 @@ class AsyncTransaction(Draft):
             self.centre, is_first = centre, False
             return self
 
-        self.result = await self.engine.commit(drafting, self.order, self.centre)
+        self.result = await self.engine.commit(drafting, self.order, self.centre, self.again)
         return self.result
 
     async def __aenter__(self) -> "AsyncTransaction":
@@ -117,13 +117,16 @@ class AsyncStore:
 
     # ---- transactions
 
-    def transaction(self, order: Optional[str] = None, note: bytes = b"", centre: Optional[int] = None) -> AsyncTransaction:
+    def transaction(self, order: Optional[str] = None, note: bytes = b"", centre: Optional[int] = None,
+                    again: bool = False) -> AsyncTransaction:
         """A transaction, to be used as a context. With an order it happens once, however often and wherever it is sent; `note` stands in the
-        order's record. Without one it happens at most once too, but may end as Unknown and stay so."""
-        return AsyncTransaction(self.engine, order, note, centre, self.prefix)
+        order's record. Without one it happens at most once too, but may end as Unknown and stay so. `again` says that this order was sent
+        before, by a program that ended or at another machine, and what came of that is not known: where it is then reported as not committed,
+        that holds of the earlier sending too."""
+        return AsyncTransaction(self.engine, order, note, centre, self.prefix, again)
 
     async def run(self, function: Callable[[AsyncTransaction], Awaitable[object]], order: Optional[str] = None, note: bytes = b"",
-                  centre: Optional[int] = None) -> Result:
+                  centre: Optional[int] = None, again: bool = False) -> Result:
         """Runs a function that makes a transaction, and commits that; both again, with new reads, where another was faster."""
         async def drafting(at: int) -> Draft:
             transaction = self.transaction(order, note, at)
@@ -131,7 +134,7 @@ class AsyncStore:
             await function(transaction)
             return transaction
 
-        return await self.engine.commit(drafting, self.key_of(order), centre)
+        return await self.engine.commit(drafting, self.key_of(order), centre, again)
 
     def key_of(self, order: Optional[str]) -> Optional[str]:
         """Under which key an order's record stands."""

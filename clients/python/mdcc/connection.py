@@ -20,6 +20,8 @@ from .results import PortTaken
 # No more reads than this wait for their answers at one centre, whose socket may have room for a few hundred datagrams.
 MOST_READS = 64
 BUFFER = 4 << 20
+# So many answers are taken before others in the program have their turn.
+MOST_AT_ONCE = 64
 # More than any number of a record may change by, since bounds are at most 10^15 in magnitude.
 NO_AMOUNT = 2 ** 62
 
@@ -52,9 +54,15 @@ class Waiting:
     # how many copies were refused, and the last refusal
     refusals: int = 0
     refused: Optional[wire.BeginRefused] = None
-    told: asyncio.Event = field(default_factory=asyncio.Event)
+    # done once an answer came, or the time is over
+    told: Optional["asyncio.Future[None]"] = None
     # each with the epoch in which the centre gave it
     answers: List[Tuple[int, wire.Answer]] = field(default_factory=list)
+
+    def tell(self) -> None:
+        """Has whoever waits for an answer go on."""
+        if self.told is not None and not self.told.done():
+            self.told.set_result(None)
 
     def has_passed(self, refused: wire.BeginRefused) -> bool:
         """Whether the centre holds a later version than the part rests on. Versions only rise, so no later copy is begun there."""
@@ -83,40 +91,52 @@ class Waiting:
         return Ending(None if self.begun else self.refused, self.begun, False)
 
 
-class Endpoint(asyncio.DatagramProtocol):
+class Endpoint:
     """The one socket at which the answers of a centre come."""
 
-    def __init__(self, centre: int, to: Tuple[str, int]):
-        self.centre, self.to = centre, to
+    def __init__(self, centre: int, to: Tuple[str, int], bound: socket.socket):
+        self.centre, self.to, self.bound = centre, to, bound
         # Serials of other processes lie elsewhere, as far as chance goes; `Connection.begin` notices where they do not.
         self.serial = int.from_bytes(os.urandom(4), "little")
         self.waiting: Dict[int, Waiting] = {}
         # the epoch of the centre's last answer, and the newest transaction that it began for this process, by epoch and sequence
         self.epoch: Optional[int] = None
         self.newest: Optional[Tuple[int, int]] = None
+        # when the centre answered last, by the clock of the loop
+        self.heard: Optional[float] = None
         self.reads = asyncio.Semaphore(MOST_READS)
-        self.transport: Optional[asyncio.DatagramTransport] = None
-        self.closed = asyncio.Event()
+        self.loop = asyncio.get_running_loop()
+        self.loop.add_reader(bound.fileno(), self.receive)
 
-    def connection_made(self, transport: asyncio.BaseTransport) -> None:
-        self.transport = transport  # type: ignore[assignment]
+    def close(self) -> None:
+        """Gives the port free."""
+        if self.bound.fileno() >= 0:
+            self.loop.remove_reader(self.bound.fileno())
+            self.bound.close()
 
-    def connection_lost(self, exc: Optional[Exception]) -> None:
-        self.closed.set()
+    def receive(self) -> None:
+        """Takes the answers that are there, but not so many at once that all else would wait."""
+        for _ in range(MOST_AT_ONCE):
+            try:
+                data = self.bound.recv(wire.MOST_DATAGRAM + 1)
+            except BlockingIOError:
+                return
+            except OSError:
+                # A centre that does not run refuses datagrams; they are lost, as others may be.
+                continue
+            self.take(data)
 
-    def error_received(self, exc: Exception) -> None:
-        """A centre that does not run refuses datagrams; they are lost, as others may be."""
-
-    def datagram_received(self, data: bytes, addr: object) -> None:
+    def take(self, data: bytes) -> None:
+        """Gives an answer to the request that it belongs to."""
         try:
             serial, epoch, answer = wire.read_answer(data, self.centre)
         except wire.NoAnswer:
             return
-        self.epoch = epoch
+        self.epoch, self.heard = epoch, self.loop.time()
         waiting = self.waiting.get(serial)
         if waiting is not None:
             waiting.answers.append((epoch, answer))
-            waiting.told.set()
+            waiting.tell()
 
     def next_serial(self) -> int:
         self.serial = (self.serial + 1) & 0xFFFFFFFF
@@ -130,20 +150,25 @@ class Endpoint(asyncio.DatagramProtocol):
 
     def send(self, waiting: Waiting) -> None:
         waiting.sends += 1
-        if self.transport is not None and not self.transport.is_closing():
-            for datagram in waiting.datagrams:
-                self.transport.sendto(datagram, self.to)
+        for datagram in waiting.datagrams:
+            try:
+                self.bound.sendto(datagram, self.to)
+            except OSError:
+                # There is no room at the moment, or no way: it is lost, as others may be.
+                pass
 
 
 async def told(waiting: Waiting, seconds: float) -> bool:
     """Waits for an answer, and says whether one came."""
     if not waiting.answers:
-        waiting.told.clear()
+        loop = asyncio.get_running_loop()
+        waiting.told = loop.create_future()
+        late = loop.call_later(max(seconds, 0.0), waiting.tell)
         try:
-            await asyncio.wait_for(waiting.told.wait(), max(seconds, 0.0))
-        except asyncio.TimeoutError:
-            return False
-    return True
+            await waiting.told
+        finally:
+            late.cancel()
+    return bool(waiting.answers)
 
 
 def bound_socket(configuration: Configuration, centre: int) -> socket.socket:
@@ -178,18 +203,14 @@ class Connection:
                     continue
                 await self.close()
                 raise
-            endpoint = Endpoint(centre, self.configuration.asked(centre))
-            await asyncio.get_running_loop().create_datagram_endpoint(lambda: endpoint, sock=bound)
-            self.endpoints[centre] = endpoint
+            self.endpoints[centre] = Endpoint(centre, self.configuration.asked(centre), bound)
         if not self.endpoints:
             raise OSError(errno.EADDRNOTAVAIL, "no centre of the configuration has its host at this machine")
 
     async def close(self) -> None:
-        """Gives the ports free, and returns once they are."""
+        """Gives the ports free. Nothing can be asked any more."""
         for endpoint in self.endpoints.values():
-            if endpoint.transport is not None:
-                endpoint.transport.close()
-                await endpoint.closed.wait()
+            endpoint.close()
 
     def pause(self, waiting: Waiting) -> float:
         """For how long to wait until a request is sent again: longer each time, since a centre that is late may have too much to do."""
@@ -222,7 +243,10 @@ class Connection:
 
     async def read_all(self, centre: int, keys: Sequence[str], seconds: float) -> Dict[str, Record]:
         """What a centre shows of keys, each asked by a datagram of its own, all at once. Those without an answer in time are not there."""
-        shown = await asyncio.gather(*(self.read(centre, key, seconds) for key in keys))
+        if len(keys) == 1:
+            shown = [await self.read(centre, keys[0], seconds)]
+        else:
+            shown = await asyncio.gather(*(self.read(centre, key, seconds) for key in keys))
         return {record.key: record for record in shown if record is not None}
 
     # ---- begins

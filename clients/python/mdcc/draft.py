@@ -27,7 +27,9 @@ class Draft:
     def __init__(self, configuration: Configuration, order: Optional[str], note: bytes, prefix: str):
         self.configuration = configuration
         self.order = None if order is None else checked_key(prefix + order)
-        self.note = checked_body(note)
+        # A mark of one byte stands before it.
+        checked_body(b"." + note)
+        self.note = bytes(note)
         # where the records of this transaction were read, and what was shown
         self.centre: Optional[int] = None
         # whether each attempt has a new draft, whose reads are as new

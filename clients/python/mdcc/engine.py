@@ -188,9 +188,10 @@ class Engine:
 
     # ---- attempts
 
-    async def commit(self, drafting: Drafting, order: Optional[str], centre: Optional[int]) -> Result:
-        """Attempts until one commits, or a cause is found for which none can, or the time is over."""
-        course = Course(self.now() + self.settings.patience, self.first(centre))
+    async def commit(self, drafting: Drafting, order: Optional[str], centre: Optional[int], again: bool = False) -> Result:
+        """Attempts until one commits, or a cause is found for which none can, or the time is over. `again` says that the order was sent before
+        and had no answer: then it is not reported as not committed before that sending cannot happen any more either."""
+        course = Course(self.now() + self.settings.patience, self.first(centre), in_doubt=again and order is not None)
         pause = SHORT
         while course.attempts < self.settings.attempts and self.now() < course.end:
             course.attempts += 1

@@ -135,13 +135,15 @@ class Store:
 
     # ---- transactions
 
-    def transaction(self, order: Optional[str] = None, note: bytes = b"", centre: Optional[int] = None) -> Transaction:
+    def transaction(self, order: Optional[str] = None, note: bytes = b"", centre: Optional[int] = None, again: bool = False) -> Transaction:
         """A transaction, to be used as a context. With an order it happens once, however often and wherever it is sent; `note` stands in the
-        order's record. Without one it happens at most once too, but may end as Unknown and stay so."""
-        return Transaction(self, self.inner.transaction(order, note, centre))
+        order's record. Without one it happens at most once too, but may end as Unknown and stay so. `again` says that this order was sent
+        before, by a program that ended or at another machine, and what came of that is not known: where it is then reported as not committed,
+        that holds of the earlier sending too."""
+        return Transaction(self, self.inner.transaction(order, note, centre, again))
 
     def run(self, function: Callable[[Transaction], object], order: Optional[str] = None, note: bytes = b"",
-            centre: Optional[int] = None) -> Result:
+            centre: Optional[int] = None, again: bool = False) -> Result:
         """Runs a function that makes a transaction, and commits that; both again, with new reads, where another was faster."""
         def made(inner: AsyncTransaction) -> None:
             function(Transaction(self, inner))
@@ -150,7 +152,7 @@ class Store:
             # The function waits for its reads, so it runs beside the loop that does them.
             await self.loop.run_in_executor(None, made, inner)
 
-        return self.wait(self.inner.run(drafting, order, note, centre))
+        return self.wait(self.inner.run(drafting, order, note, centre, again))
 
     # ---- orders, and upkeep
 

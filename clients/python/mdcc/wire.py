@@ -2,11 +2,14 @@
 from __future__ import annotations
 
 import struct
-from typing import Iterable, List, NamedTuple, Optional, Tuple, Union
+from functools import partial
+from typing import Callable, Iterable, List, NamedTuple, Optional, Tuple, Union
 
 from .records import Add, Item, Part, Record, Tx
 
-HEAD = struct.Struct("<BIIIHH")
+HEAD, MESSAGE, TX = struct.Struct("<BIIIHH"), struct.Struct("<BBBBI"), struct.Struct("<BII")
+# Makes a transaction of its fields, of which an answer has many.
+MADE: Callable[[Iterable[int]], Tx] = partial(tuple.__new__, Tx)
 PIECE = 1383
 MOST_DATAGRAM = 1400
 CLIENT_READ, CLIENT_BEGIN, CLIENT_ANSWER = 13, 14, 15
@@ -67,7 +70,7 @@ def key_bytes(key: str) -> bytes:
 
 def seen_bytes(seen: Iterable[Tx]) -> bytes:
     listed = tuple(seen)
-    return bytes((len(listed),)) + b"".join(struct.pack("<BII", *tx) for tx in listed)
+    return bytes((len(listed),)) + b"".join(TX.pack(*tx) for tx in listed)
 
 
 def item_bytes(item: Item) -> bytes:
@@ -121,13 +124,13 @@ class Reader:
         return taken
 
     def u8(self, low: int = 0, high: int = 255) -> int:
-        value = self.take(1)[0]
+        if self.at >= len(self.data):
+            raise NoAnswer("the bytes end too early")
+        value = self.data[self.at]
         if not low <= value <= high:
             raise NoAnswer(f"{value} is not from {low} to {high}")
+        self.at += 1
         return value
-
-    def u32(self) -> int:
-        return int.from_bytes(self.take(4), "little")
 
     def u64(self) -> int:
         return int.from_bytes(self.take(8), "little")
@@ -142,10 +145,16 @@ class Reader:
             raise NoAnswer("a key that is none") from None
 
     def tx(self) -> Tx:
-        return Tx(self.u8(1, 9), self.u32(), self.u32())
+        tx = MADE(TX.unpack(self.take(TX.size)))
+        if not 1 <= tx.centre <= 9:
+            raise NoAnswer("a transaction of no centre")
+        return tx
 
     def seen(self) -> Tuple[Tx, ...]:
-        return tuple(self.tx() for _ in range(self.u8(0, 64)))
+        listed = tuple(map(MADE, TX.iter_unpack(self.take(self.u8(0, 64) * TX.size))))
+        if listed and not (1 <= min(listed).centre and max(listed).centre <= 9):
+            raise NoAnswer("a transaction of no centre")
+        return listed
 
     def item(self) -> Item:
         body = self.take(self.u8(0, 128))
@@ -189,9 +198,9 @@ def read_answer(datagram: bytes, centre: int) -> Answered:
     if sender != centre or (index, count) != (0, 1) or total != len(datagram) - HEAD.size:
         raise NoAnswer("no single piece of this centre")
     reader = Reader(datagram[HEAD.size:])
-    if (reader.u8(), reader.u8(), reader.u8(), reader.u8()) != (1, CLIENT_ANSWER, centre, 16 + centre):
+    *head, serial = MESSAGE.unpack(reader.take(MESSAGE.size))
+    if head != [1, CLIENT_ANSWER, centre, 16 + centre]:
         raise NoAnswer("another message")
-    serial = reader.u32()
     answer = answer_in(reader, centre)
     reader.end()
     return Answered(serial, epoch, answer)

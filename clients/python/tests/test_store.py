@@ -293,6 +293,26 @@ class Trouble(StoreCase):
         self.assertEqual(self.value(), 99)
 
 
+    def test_an_order_that_was_sent_before(self):
+        """Where it is not committed, its record is void before that is said: what was sent before cannot happen any more."""
+        self.assertEqual((self.failed(-101, order="1").why, self.store.read("order/1").body), (Why.BOUNDS, b""))
+        for _ in range(2):
+            result = self.failed(-101, order="1", again=True)
+            self.assertEqual((type(result), result.why, self.store.read("order/1").body), (Aborted, Why.BOUNDS, b"V"))
+        self.assertIsInstance(self.sell(order="1"), Committed)
+        self.assertEqual((self.sell(order="1", again=True).tx, self.value()), (None, 99))
+
+    def test_an_order_that_cannot_be_made_void_is_unknown(self):
+        self.hasten()
+        self.cluster.silent = {1, 2, 3}
+        self.assertIsInstance(self.failed(-1, order="1", again=True), Unknown)
+
+    def test_a_note_has_its_room(self):
+        self.sell(order="1", note=b"n" * 127)
+        self.assertEqual(self.store.read("order/1").body, b"D" + b"n" * 127)
+        self.assertRaises(ValueError, self.sell, order="2", note=b"n" * 128)
+
+
 class Many(StoreCase):
     def test_threads(self):
         self.cluster.lose = 20
