@@ -116,6 +116,10 @@ class Forger:
             return self.random.getrandbits(32), key
         if kind == messages.CLIENT_BEGIN:
             return self.random.getrandbits(32), self.parts()
+        if kind == messages.MARK:
+            return tx
+        if kind == messages.FINISHED:
+            return (tx,)
         return self.random.getrandbits(32), self.answer()
 
     def message(self, kind, to=None):

@@ -12,7 +12,7 @@ from .logs import NotALog
 from .summary import Summary, summary_of
 from .watching import lost_at
 
-KINDS = ("", "booted", "promised", "voted", "heard", "adopted")
+KINDS = ("", "booted", "promised", "voted", "heard", "adopted", "floor")
 FULL = 0.8
 SOON = 0.3
 NOTE, LOOK, ALARM = range(3)
@@ -225,7 +225,7 @@ class Health:
         metric("running", "1 where a node has the log", each(lambda one: int(one.summary.is_running)))
         metric("epoch", "starts over this log", each(lambda one: one.summary.epoch))
         metric("facts", "facts in the log", [(f'{{centre="{one.number}",kind="{KINDS[kind]}"}}', one.summary.kinds[kind])
-                                             for one in known for kind in range(1, 6)])
+                                             for one in known for kind in range(1, len(KINDS))])
         metric("log_bytes", "bytes of the area in use", each(lambda one: one.summary.bytes))
         metric("log_limit_bytes", "the most bytes of an area", [("", LOG_LIMIT)])
         metric("cells_used", "cells that the facts take", each(lambda one: one.summary.cells))

@@ -157,7 +157,7 @@ class Forged:
         self.random, self.forger, self.centre, self.kinds, self.passed_over = random, forger, centre, Counter(), 0
 
     def next_datagram(self, is_asked):
-        kind = self.random.choice((messages.CLIENT_READ, messages.CLIENT_BEGIN)) if is_asked else self.random.randint(1, 15)
+        kind = self.random.choice((messages.CLIENT_READ, messages.CLIENT_BEGIN)) if is_asked else self.random.randint(1, len(messages.KINDS))
         message = self.forger.message(kind, self.centre)
         datagrams = split(messages.encode(*message), message[0], self.random.randint(1, 3), self.random.getrandbits(32))
         if len(datagrams) > 1:

@@ -6,10 +6,10 @@ import os
 
 from .messages import MOST_BYTES, read_give, read_outcome, write_give, write_outcome
 from .parts import (
-    U8, U32, U64, Refused, read_ballot, read_choice_of, read_number, read_options, read_u8_within, read_versioned, write_ballot,
-    write_choice, write_options, write_versioned)
+    U8, U32, U64, Refused, read_ballot, read_choice_of, read_number, read_numbers, read_options, read_u8_within, read_versioned,
+    write_ballot, write_choice, write_options, write_tx, write_versioned)
 
-BOOTED, PROMISED, VOTED, HEARD, ADOPTED = range(1, 6)
+BOOTED, PROMISED, VOTED, HEARD, ADOPTED, FLOOR = range(1, 7)
 FIRST, SECOND = b"MDCCLOG1", b"MDCCLOG2"
 
 
@@ -42,7 +42,7 @@ def read_vote(data, at):
     return (key, version, ballot, options, offered), at
 
 
-READERS = (read_booted, read_promised, read_vote, read_outcome, read_give)
+READERS = (read_booted, read_promised, read_vote, read_outcome, read_give, read_numbers)
 
 
 def write_vote(body):
@@ -57,6 +57,7 @@ WRITERS = (
     write_vote,
     write_outcome,
     write_give,
+    write_tx,
 )
 
 
@@ -65,7 +66,7 @@ def encode_fact(kind, body):
 
 
 def decode_fact(data):
-    kind, at = read_u8_within(0, 1, 5, data, 0)
+    kind, at = read_u8_within(0, 1, 6, data, 0)
     body, after = READERS[kind - 1](data, at)
     if after != len(data):
         raise Refused("Trailing", after)

@@ -1,18 +1,20 @@
-"""Messages: an envelope with one of fifteen kinds, as bytes.
+"""Messages: an envelope with one of seventeen kinds, as bytes. The first format has those from 1 to 15, the second one 16 and 17.
 
 A message is (from, to, kind, body), the body a tuple of what the kind has, in the order of its bytes.
 """
 from .parts import (
     MOST_PARTS, U8, U32, U64, Refused, read_ascending, read_ballot, read_choice, read_classic, read_delta, read_entry, read_item,
-    read_key, read_number, read_options, read_part, read_seen, read_tx, read_u8_within, read_versioned, same, write_ballot,
+    read_key, read_number, read_numbers, read_options, read_part, read_seen, read_tx, read_u8_within, read_versioned, same, write_ballot,
     write_choice, write_delta, write_entry, write_item, write_key, write_list, write_options, write_part, write_seen, write_tx,
     write_versioned)
 
 MOST_BYTES = 2_097_152
 (PROPOSE, VOTED, ESCALATE, LEAD, PREPARE, PROMISE, ACCEPT, REFUSED, OUTCOME, ASK, SYNC_ASK, SYNC_GIVE, CLIENT_READ, CLIENT_BEGIN,
- CLIENT_ANSWER) = range(1, 16)
+ CLIENT_ANSWER, MARK, FINISHED) = range(1, 18)
 KINDS = ("Propose", "Voted", "Escalate", "Lead", "Prepare", "Promise", "Accept", "Refused", "Outcome", "Ask", "SyncAsk", "SyncGive",
-         "ClientRead", "ClientBegin", "ClientAnswer")
+         "ClientRead", "ClientBegin", "ClientAnswer", "Mark", "Finished")
+# The kinds of each format.
+FORMATS = {1: range(PROPOSE, CLIENT_ANSWER + 1), 2: range(MARK, FINISHED + 1)}
 # causes of an escalation
 BEHIND, CLASSIC, LIMIT, FULL = 1, 2, 3, 4
 # answers to a client
@@ -205,6 +207,11 @@ def read_client_answer(data, at):
     return (serial, answer), after
 
 
+def read_finished(data, at):
+    tx, at = read_tx(data, at)
+    return (tx,), at
+
+
 def write_begin_fault(fault):
     rest = {1: lambda version, seen: U64.pack(version) + write_seen(seen), 2: U64.pack}
     return U8.pack(fault[0]) + rest.get(fault[0], lambda: b"")(*fault[1:])
@@ -228,7 +235,8 @@ def write_answer(answer):
 
 
 READERS = (read_only_choice, read_voted, read_escalate, read_only_choice, read_prepare, read_promise, read_accept, read_refused,
-           read_outcome, read_ask, read_sync_ask, read_give, read_client_read, read_client_begin, read_client_answer)
+           read_outcome, read_ask, read_sync_ask, read_give, read_client_read, read_client_begin, read_client_answer, read_numbers,
+           read_finished)
 
 WRITERS = (
     lambda body: write_choice(body[0]),
@@ -246,19 +254,25 @@ WRITERS = (
     lambda body: U32.pack(body[0]) + write_key(body[1]),
     lambda body: U32.pack(body[0]) + write_list(U8, body[1], write_part),
     lambda body: U32.pack(body[0]) + write_answer(body[1]),
+    write_tx,
+    lambda body: write_tx(body[0]),
 )
 
 
+def format_of(kind):
+    return 1 if kind in FORMATS[1] else 2
+
+
 def encode(sender, to, kind, body):
-    return bytes((1, kind, sender, to)) + WRITERS[kind - 1](body)
+    return bytes((format_of(kind), kind, sender, to)) + WRITERS[kind - 1](body)
 
 
 def decode(data):
     """The message (from, to, kind, body) that the bytes are; raises Refused where they are none."""
-    for place, highest in ((0, 1), (1, 15)):
+    for place in (0, 1):
         if place >= len(data):
             raise Refused("Truncated", len(data))
-        if not 1 <= data[place] <= highest:
+        if data[place] not in (FORMATS if place == 0 else FORMATS[data[0]]):
             raise Refused("Kind")
     for place in (2, 3):
         if place >= len(data):

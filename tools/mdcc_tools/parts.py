@@ -103,6 +103,18 @@ def read_key(data, at, check=is_free):
     return key, at
 
 
+def read_numbers(data, at):
+    """A centre, an epoch and a number of a transaction: as an identifier has them, but each is refused at its own place."""
+    centre, epoch_at = read_u8_within(at, 1, 9, data, at)
+    epoch, sequence_at = read_number(U32, data, epoch_at)
+    if epoch == 0:
+        raise Refused("Range", epoch_at)
+    sequence, after = read_number(U32, data, sequence_at)
+    if sequence == 0:
+        raise Refused("Range", sequence_at)
+    return (centre, epoch, sequence), after
+
+
 def read_tx(data, at, check=is_free):
     part = at
     centre, at = read_u8_within(part, 1, 9, data, at)

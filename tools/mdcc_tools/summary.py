@@ -10,7 +10,7 @@ from .areas import End, Position
 from .logs import ADOPTED, BOOTED, HEARD, VOTED, cells_of
 from .parts import TX, U32, U64
 
-FORMAT = 4
+FORMAT = 5
 
 
 def number_of(centre: int, epoch: int, sequence: int) -> int:
@@ -74,7 +74,7 @@ class Summary:
         self.begin_anew()
 
     def begin_anew(self) -> None:
-        self.epoch, self.cells, self.kinds = 0, 0, [0] * 6
+        self.epoch, self.cells, self.kinds = 0, 0, [0] * 7
         self.commits: Set[int] = set()
         self.aborts: Set[int] = set()
         self.open: Set[int] = set()

@@ -43,6 +43,8 @@ def lines_of(kind: int, body: tuple, values: bool = True) -> Iterator[str]:
         yield f"heard {text_of_tx(tx)} {'abort' if choices is None else 'commit'}"
         for choice in (choices or ()) if values else ():
             yield f"    {choice.key.decode()} {choice.version} {text_of_update(choice.update)}"
+    elif kind == logs.FLOOR:
+        yield "floor " + " ".join(map(str, body))
     else:
         key, version, (item, numbers), deltas = body
         rest = f" body {text_of_body(item)} values {text_of_values(numbers)}" if values else ""
