@@ -1,0 +1,1 @@
+"""What `tools/ctl` does: its words, its answers, and whom it asks."""
