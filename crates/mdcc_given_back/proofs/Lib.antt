@@ -1,0 +1,4 @@
+pub mod Compacting
+pub mod Growing
+pub mod Left
+pub mod Walked
