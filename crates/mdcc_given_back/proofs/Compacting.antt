@@ -1,15 +1,15 @@
 -- A store that gives back all that it can keeps exactly the cells that the centre holds.
-use Rattle.std.proofs.Common.{◌≡◌, ◌+◌, ◌≤◌, if◌then◌else◌, ℕ, Bool, true, false, not, List, [], ◌∷◌, None, length, refl, sym, ap, ◌∙◌, inl, inr, arith, zero-add}
+use Rattle.std.proofs.Common.{◌≡◌, ◌+◌, ◌≤◌, if◌then◌else◌, ℕ, Bool, true, false, not, List, [], ◌∷◌, None, refl, sym, ap, ◌∙◌, inl, inr, arith, zero-add}
 use Rattle.std.specs.Int.{div_ceil}
 use Rattle.std.specs.List.{AllByRecursion}
-use Rattle.std.proofs.lemmas.Bool.{and_parts, cases_Bool, not-true}
+use Rattle.std.proofs.lemmas.Bool.{and_parts, not-true}
 use Rattle.std.proofs.lemmas.Grind.{div_ceil_times}
 use Rattle.mdcc_base.specs.Ballot.{is_fast}
 use Rattle.mdcc_base.specs.Counts.{sum_over}
 use Rattle.mdcc_messages.specs.Lengths.{cells_needed, cells_used, fact_length}
 use Rattle.mdcc_messages.specs.WellFormed.{IsWellFormedFact}
 use Rattle.mdcc_messages.specs.declared.facts.Fact.{Fact}
-use Rattle.mdcc_protocol.specs.Cells.{cells_held, cells_kept, cells_left}
+use Rattle.mdcc_protocol.specs.Cells.{cells_kept, cells_left}
 use Rattle.mdcc_protocol.specs.Facts.{has_floor}
 use Rattle.mdcc_given_back.specs.Compact.{CompactedIsHeld, CompactedIsRest, CompactedOnce, HeldByRest, HeldWithinRest, LeftOfRest, compacted}
 use Rattle.mdcc_given_back.specs.Rest.{AreRest, IsLeft, bare, is_bared, is_dropped, is_vote_past}

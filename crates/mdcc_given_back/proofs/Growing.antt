@@ -1,18 +1,16 @@
 -- What is given back of the facts of a centre stays so when further facts come.
-use Rattle.std.proofs.Common.{◌≡◌, ◌==◌, ◌&&◌, ◌||◌, ◌<◌, ◌≤◌, if◌then◌else◌, ℕ, Bool, true, false, not, List, [], ◌∷◌, Option, Some, None, is_some, fold, refl, sym, ap, ◌∙◌, inl, inr, arith}
-use Rattle.std.specs.List.{list_all, list_any}
+use Rattle.std.proofs.Common.{◌≡◌, ◌==◌, ◌&&◌, ◌≤◌, if◌then◌else◌, ℕ, Bool, true, false, not, List, [], ◌∷◌, Option, Some, None, is_some, fold, refl, ◌∙◌, inl, inr, arith}
+use Rattle.std.specs.List.{list_any}
 use Rattle.std.specs.Option.{option_or}
 use Rattle.std.specs.Prelude.{max, nat_le, nat_lt, ⊤}
 use Rattle.std.proofs.lemmas.Bool.{cases_Bool, and_parts, not-true, or_parts}
 use Rattle.std.proofs.lemmas.Bool.Decides.{nat_tests}
 use Rattle.mdcc_base.specs.Ballot.{is_fast}
-use Rattle.mdcc_base.specs.Key.{key_eq}
 use Rattle.mdcc_base.specs.TxId.{tx_eq}
 use Rattle.mdcc_base.specs.declared.identifiers.TxId.{TxId}
 use Rattle.mdcc_base.specs.declared.key.Key.{Key}
 use Rattle.mdcc_option.specs.OneCopy.{next_version}
 use Rattle.mdcc_option.specs.declared.choices.Choice.{Choice}
-use Rattle.mdcc_option.specs.declared.choices.Mark.{Mark}
 use Rattle.mdcc_option.specs.declared.choices.Outcome.{Outcome}
 use Rattle.mdcc_option.proofs.Equal.{Decides-key}
 use Rattle.mdcc_struct.specs.Maps.{value_of}
@@ -22,7 +20,7 @@ use Rattle.mdcc_protocol.specs.Marks.{is_write}
 use Rattle.mdcc_messages.specs.declared.facts.Fact.{Fact}
 use Rattle.mdcc_protocol.specs.Facts.{current_of, floor_of, heard_of, is_finished, is_forgotten, is_idle, is_needed, is_past, outcome_in, shows_mark, version_from, version_given}
 use Rattle.mdcc_given_back.specs.Growth.{BaredStays, DroppedStays, RestsGrow, RestsStay, tells_of_finished}
-use Rattle.mdcc_given_back.specs.Rest.{AreRest, IsLeft, bare, is_bared, is_dropped, is_vote_past}
+use Rattle.mdcc_given_back.specs.Rest.{IsLeft, is_vote_past}
 
 -- ---- numbers that rise
 

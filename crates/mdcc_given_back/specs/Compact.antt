@@ -1,6 +1,6 @@
 -- What a store keeps that gives back all that it can, and how many cells that needs.
 use Rattle.std.specs.List.{AllByRecursion}
-use Rattle.std.specs.Prelude.{◌≡◌, ◌≤◌, List, [], if◌then◌else◌, true, ℕ, ◌∷◌}
+use Rattle.std.specs.Prelude.{◌≡◌, ◌≤◌, List, [], if◌then◌else◌, true, ◌∷◌}
 use Rattle.mdcc_base.specs.Counts.{sum_over}
 use Rattle.mdcc_messages.specs.Lengths.{cells_used}
 use Rattle.mdcc_messages.specs.WellFormed.{IsWellFormedFact}

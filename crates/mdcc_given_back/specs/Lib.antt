@@ -1,3 +1,10 @@
 pub mod Compact
+pub mod Endings
+pub mod Finished
 pub mod Growth
+pub mod Loads
+pub mod Marks
+pub mod Offers
 pub mod Rest
+pub mod Unsettled
+pub mod Versions

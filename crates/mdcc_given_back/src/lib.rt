@@ -4,5 +4,11 @@
 #![tactic(auto)]
 
 pub mod cells;
+pub mod endings;
+pub mod finished;
 pub mod later_facts;
+pub mod loads;
+pub mod marks;
 pub mod rests;
+pub mod unsettled;
+pub mod versions;
