@@ -144,7 +144,7 @@ module _ (all : List Fact) where
   some-cell : (n : ℕ) → 1 ≤ n → 1 ≤ div_ceil n 60
   some-cell n some = let cells = div_ceil_times n 60 (omega arith) in omega (arith, cells.0)
 
-  bared-cell : (fact : Fact) → is_bared all fact ≡ true → 1 ≤ cells_needed fact
+  pub bared-cell : (fact : Fact) → is_bared all fact ≡ true → 1 ≤ cells_needed fact
   bared-cell (Fact.Voted key version ballot options offered) h = some-cell (fact_length (Fact.Voted key version ballot options offered)) (omega arith)
   bared-cell (Fact.Booted epoch) h = absurd (cc)
   bared-cell (Fact.Promised key low high ballot) h = absurd (cc)
@@ -157,7 +157,7 @@ module _ (all : List Fact) where
   at-most false true n some = some refl
   at-most false false n some = omega arith
 
-  left-within : (fact : Fact) → cells_left all fact ≤ cells_needed fact
+  pub left-within : (fact : Fact) → cells_left all fact ≤ cells_needed fact
   left-within fact = rw (cells-left all fact) (at-most (is_dropped all fact) (is_bared all fact) (cells_needed fact) (bared-cell fact))
 
   add-within : (a b c d : ℕ) → a ≤ c → b ≤ d → a + b ≤ c + d
@@ -189,7 +189,7 @@ module _ (all : List Fact) where
   used-by fact rest false true b w = ap (λ n. n + cells_used rest) (bare-cell fact b w)
   used-by fact rest false false b w = refl
 
-  used-left : (rest : List Fact) → AllByRecursion IsWellFormedFact rest → cells_used (compacted all rest) ≡ sum_over (cells_left all) rest
+  pub used-left : (rest : List Fact) → AllByRecursion IsWellFormedFact rest → cells_used (compacted all rest) ≡ sum_over (cells_left all) rest
   used-left [] w = refl
   used-left (fact ∷ rest) w =
       used-by fact (compacted all rest) (is_dropped all fact) (is_bared all fact) refl w.0

@@ -1,5 +1,7 @@
 pub mod Alike
+pub mod Apart
 pub mod Compacting
+pub mod Counting
 pub mod DeltasLive
 pub mod EndingsLeft
 pub mod FirstHeard
@@ -13,6 +15,7 @@ pub mod MarksLeft
 pub mod NextMark
 pub mod PastVotes
 pub mod ThroughLeft
+pub mod Tops
 pub mod UnsettledLeft
 pub mod Untold
 pub mod VersionsLeft

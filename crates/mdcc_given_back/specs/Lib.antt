@@ -1,4 +1,5 @@
 pub mod Compact
+pub mod Counted
 pub mod Endings
 pub mod Finished
 pub mod Growth

@@ -1,4 +1,5 @@
 //! The cells of what is left.
+ghost use Rattle.mdcc_given_back.specs.Counted.{HeldApart, HeldByNeeded, HeldWithinNeeded, LeftFalls, TopFloorsRise};
 ghost use Rattle.mdcc_given_back.specs.Compact.{CompactedIsHeld, CompactedIsRest, CompactedOnce, HeldByRest, HeldWithinRest, LeftOfRest};
 
 /// A store may give back all that it can from what it has left, and again, and has the same left.
@@ -16,4 +17,21 @@ pub fn cells_of_rests()
     ensures held { HeldByRest }
     ensures within { HeldWithinRest }
     ensures exact { CompactedIsHeld }
+{}
+
+/// A further fact, which tells nothing of a finished transaction, takes at most the cells that it
+/// needs; a boot, a promise and a vote with a mark take exactly these.
+#[tactic(auto, using(crate::proofs::Counting::left_falls, crate::proofs::Counting::held_within_needed, crate::proofs::Counting::held_by_needed))]
+pub fn cells_of_later_facts()
+    ensures falls { LeftFalls }
+    ensures within { HeldWithinNeeded }
+    ensures exact { HeldByNeeded }
+{}
+
+/// A store that has the floors apart counts one cell for each that none raised; there is one for each
+/// epoch that has a floor.
+#[tactic(auto, using(crate::proofs::Apart::held_apart, crate::proofs::Tops::top_floors_rise))]
+pub fn cells_with_floors_apart()
+    ensures held { HeldApart }
+    ensures rise { TopFloorsRise }
 {}
