@@ -3,6 +3,10 @@
 It is one thread. `step` waits for answers, takes them all, and asks again what is late. A request has a serial of its own, under
 which a node begins at most one transaction until it starts anew, so asking again is safe but across a restart of the node.
 
+A node that refuses to begin notes nothing, so a refusal is of one copy of a request: another copy, which lies in the node's socket, may be begun
+after it. So a refusal of what was sent several times ends it only where nothing of it can be begun any more (`Request.ends_by`). Else no more
+copies are sent, the others' answers are waited for, and where none begins it, what came of it is not known, as where no answer comes.
+
 When an answer came to its socket the system says (SO_TIMESTAMPNS), so that what a request took without this program is known too.
 """
 import heapq
@@ -13,6 +17,7 @@ import socket
 import struct
 import time
 from collections import Counter, deque
+from typing import Dict, Optional
 
 from . import messages
 from .datagrams import HEAD, WHOLE, Joiner, split
@@ -52,15 +57,35 @@ def time_in(told):
 
 
 class Request:
-    """What was asked. `answered` is called with each answer, and with None where none came in time; it says whether that ends it.
+    """What was asked. `answered` is called with each answer, and with None where no end was told in time; it says whether that ends it.
 
-    It began at `began` by the clock that only rises, and at `sent` by that of the system, which `Client.came` has too."""
-    __slots__ = ("serial", "centre", "datagrams", "began", "sent", "late", "answered", "is_open")
+    It began at `began` by the clock that only rises, and at `sent` by that of the system, which `Client.came` has too. Where what came of it is
+    not known although a copy of it was refused, `refused` has that answer."""
+    __slots__ = ("serial", "centre", "datagrams", "versions", "epoch", "began", "sent", "late", "answered", "is_open", "sends", "refusals", "refused",
+                 "doubted", "begun_in")
 
-    def __init__(self, serial, centre, datagrams, patience, answered):
+    def __init__(self, serial, centre, datagrams, patience, answered, versions, epoch):
+        """`versions` are those that the parts of a begin rest on, by key, and `epoch` that of the centre's last answer before; None where
+        there was none."""
         self.serial, self.centre, self.datagrams, self.answered, self.is_open = serial, centre, datagrams, answered, True
+        self.versions: Dict[bytes, int] = versions
+        self.epoch: Optional[int] = epoch
         self.began, self.sent = time.monotonic(), time.time()
         self.late = self.began + patience
+        self.sends = self.refusals = 0
+        self.refused: Optional[tuple] = None
+        # until when the answers to other copies are waited for, after a refusal
+        self.doubted = 0.0
+        # the epoch in which the centre said that it began it
+        self.begun_in: Optional[int] = None
+
+    def ends_by(self, refused: tuple, epoch: int) -> bool:
+        """Whether a refusal, given in this epoch of the centre, says of all copies that none will be begun: each was refused, or the centre,
+        which did not start anew since the first was sent, holds a later version than was asked for, and versions only rise."""
+        if self.refusals >= self.sends:
+            return True
+        key, version = refused[1], refused[3] if len(refused) > 3 else None
+        return epoch == self.epoch and version is not None and version > self.versions.get(key, version)
 
 
 class Client:
@@ -72,6 +97,8 @@ class Client:
         self.order = itertools.count()
         self.counts = Counter()
         self.sockets, self.joiners, self.poll = {}, {}, select.poll()
+        # the epoch of each centre's last answer
+        self.epochs: Dict[int, int] = {}
         self.by_descriptor = {}
         # when the datagram that was received last came to its socket
         self.came = 0.0
@@ -104,11 +131,13 @@ class Client:
     def ask(self, centre, kind, rest, answered):
         serial = next(self.serials) & 0xFFFFFFFF
         datagrams = split(messages.encode(16 + centre, centre, kind, (serial, rest)), 16 + centre, serial, 1)
-        request = self.requests[serial] = Request(serial, centre, datagrams, self.patience, answered)
+        versions = {part.key: part.version for part in rest} if kind == messages.CLIENT_BEGIN else {}
+        request = self.requests[serial] = Request(serial, centre, datagrams, self.patience, answered, versions, self.epochs.get(centre))
         self.send(request, request.began)
         return request
 
     def send(self, request, now):
+        request.sends += 1
         bound, address = self.sockets[request.centre], self.configuration.asked(request.centre)
         for datagram in request.datagrams:
             try:
@@ -148,26 +177,47 @@ class Client:
                 self.counts["datagrams that are no answer"] += 1
                 continue
             serial, answer = found
+            epoch = self.epochs[centre] = HEAD.unpack_from(datagram)[1]
             request = self.requests.get(serial)
             if request is None or request.centre != centre:
                 self.counts["answers to what was answered"] += 1
             else:
-                self.give(request, answer)
+                self.give(request, answer, epoch)
 
-    def give(self, request, answer):
+    def give(self, request, answer, epoch):
+        if answer[0] == messages.BEGIN_REFUSED:
+            request.refusals += 1
+            if request.begun_in is not None:
+                # The refused copy came before the one that was begun; but a centre that was started anew has forgotten what it began.
+                if epoch != request.begun_in:
+                    self.give_up(request, answer)
+                return
+            if not request.ends_by(answer, epoch):
+                request.refused, request.doubted = answer, time.monotonic() + self.again
+                self.waiting.append((request.doubted, request))
+                return
+        elif answer[0] == messages.BEGUN:
+            request.begun_in, request.refused = epoch, None
         if request.answered(request, answer):
-            request.is_open = False
-            self.requests.pop(request.serial, None)
+            self.end(request)
+
+    def end(self, request):
+        request.is_open = False
+        self.requests.pop(request.serial, None)
+
+    def give_up(self, request, refused=None):
+        """What came of it is not known; `refused` is a refusal of a copy, where there was one."""
+        request.refused = refused
+        self.end(request)
+        request.answered(request, None)
 
     def do_due(self, now):
         while self.waiting and self.waiting[0][0] <= now:
-            _, request = self.waiting.popleft()
-            if not request.is_open:
+            due, request = self.waiting.popleft()
+            if not request.is_open or due < request.doubted:
                 continue
-            if request.late <= now:
-                request.is_open = False
-                self.requests.pop(request.serial, None)
-                request.answered(request, None)
+            if request.refused is not None or request.late <= now:
+                self.give_up(request, request.refused)
             else:
                 self.counts["asked again"] += 1
                 self.send(request, now)

@@ -227,6 +227,8 @@ class Load:
         if answer is None:
             name = "timeouts"
             self.tally.note(name)
+            if request.refused is not None:
+                self.tally.note("refused in doubt")
         elif answer[0] == messages.HEARD:
             name = "commits" if answer[2] else "aborts"
             if answer[2]:

@@ -1,7 +1,8 @@
 /* Keeps orders open at the nodes of a running cluster, each an insert of a new item, and prints how many ended how, and how fast.
  *
  * The client protocol is that of docs/CLIENTS.md. A thread sends requests to the centres in turn and receives the answers at the endpoints of
- * their clients. What has no answer for a while is sent again, with the same serial.
+ * their clients. What has no answer for a while is sent again, with the same serial. Where one copy is refused, no more are sent and the answers
+ * to the others are waited for, since one of them may be begun.
  */
 #define _GNU_SOURCE
 #include <arpa/inet.h>
@@ -38,7 +39,8 @@ static const char help[] =
     "  --again S          seconds after which a request without an answer is sent again (default: 0.25)\n"
     "  --patience S       seconds after which it is given up (default: 10)\n\n"
     "It prints lines of a name and a number:\n\n"
-    "  commits N, aborts N, refusals N, timeouts N   how the orders ended; those of no answer are timeouts\n"
+    "  commits N, aborts N, refusals N, timeouts N   how the orders ended; those of no answer, or of which\n"
+    "                     one copy alone was refused, are timeouts\n"
     "  again N            how many requests were sent again\n"
     "  strange N          datagrams that are no answer of a centre\n" COMMON_LINES;
 
@@ -46,6 +48,7 @@ struct order {
     uint32_t serial;
     int centre;
     double began, sent, at_clock;
+    int sends, refusals, is_begun;
     size_t size;
     unsigned char bytes[MOST_BYTES];
 };
@@ -115,6 +118,7 @@ static void lay_out(struct order *order, const char *key, size_t length) {
 static void send_order(struct order *order, double time) {
     struct centre *centre = &centres[order->centre];
     order->sent = time;
+    order->sends++;
     /* Where the system does not take it, it counts as lost on its way. */
     (void)!sendto(centre->descriptor, order->bytes, order->size, 0, (const struct sockaddr *)&centre->asked, sizeof centre->asked);
 }
@@ -131,6 +135,7 @@ static void begin_order(int slot) {
     order_of[order->serial % SERIALS] = slot + 1;
     next_centre = next_centre % centre_count + 1;
     order->centre = next_centre;
+    order->sends = order->refusals = order->is_begun = 0;
     lay_out(order, key, length);
     load.begun++;
     load.open++;
@@ -153,6 +158,14 @@ static int is_answer(int centre, const unsigned char *bytes, size_t size) {
            bytes[17] == FORMAT && bytes[18] == CLIENT_ANSWER && bytes[19] == centre && bytes[20] == 16 + centre;
 }
 
+/* Whether a refusal of one copy says that none will be begun: each was refused. */
+static int is_refused(struct order *order, double time) {
+    order->refusals++;
+    if (!order->is_begun && order->refusals < order->sends)
+        order->sent = time;
+    return !order->is_begun && order->refusals >= order->sends;
+}
+
 static void take_answer(int centre, const unsigned char *bytes, size_t size, double came) {
     if (!is_answer(centre, bytes, size)) {
         strange++;
@@ -169,9 +182,14 @@ static void take_answer(int centre, const unsigned char *bytes, size_t size, dou
             note_time(time - order->began, came ? came - order->at_clock : time - order->began);
         else
             aborts++;
-    } else if (bytes[ANSWER_AT] == REFUSED || bytes[ANSWER_AT] == DRAFT) {
+    } else if (bytes[ANSWER_AT] == DRAFT) {
+        refusals++;
+    } else if (bytes[ANSWER_AT] == REFUSED) {
+        if (!is_refused(order, time))
+            return;
         refusals++;
     } else {
+        order->is_begun |= bytes[ANSWER_AT] == BEGUN;
         strange += bytes[ANSWER_AT] != BEGUN;
         return;
     }
@@ -207,10 +225,11 @@ static void look_after(double time) {
         struct order *order = &orders[slot];
         if (!order->size)
             continue;
-        if (time - order->began > patience) {
+        int is_silent = time - order->sent > again, in_doubt = order->refusals && !order->is_begun;
+        if (time - order->began > patience || (is_silent && in_doubt)) {
             timeouts++;
             end_order(order, time);
-        } else if (time - order->sent > again) {
+        } else if (is_silent) {
             sent_again++;
             send_order(order, time);
         }
