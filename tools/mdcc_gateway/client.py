@@ -25,12 +25,15 @@ class Client:
 
     async def ask(self, method: str, path: str, document: object = None) -> Tuple[int, Dict[str, Any]]:
         """The status and the document that a request is answered with. Raises Lost where it is not answered, ConnectionRefusedError where there
-        is nobody."""
+        is no connection, so that nothing was sent: nobody listens, or ends amid that."""
         body = b"" if document is None else json.dumps(document).encode()
         kind = "" if document is None else "Content-Type: application/json\r\n"
         head = f"{method} {path} HTTP/1.1\r\nHost: {self.host}\r\n{kind}Content-Length: {len(body)}\r\n\r\n"
         if self.writer is None:
-            self.reader, self.writer = await asyncio.open_connection(self.host, self.port)
+            try:
+                self.reader, self.writer = await asyncio.open_connection(self.host, self.port)
+            except OSError as error:
+                raise ConnectionRefusedError(error.errno, str(error)) from error
         try:
             self.writer.write(head.encode() + body)
             return await asyncio.wait_for(self.answer(), self.seconds)
