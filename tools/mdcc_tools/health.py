@@ -162,7 +162,7 @@ class Health:
     def of_centre(self, centre: Centre, must_run: bool, oldest: float) -> List[Finding]:
         name, summary = f"centre {centre.number}", centre.summary
         if centre.fault == "no log":
-            return [Finding(ALARM, f"{name} has no log", "A lost disk")]
+            return [Finding(ALARM, f"{name} has no log here", "A lost disk")]
         if centre.fault is not None:
             about = "A disk that failed" if centre.fault.startswith("not readable") else "A damaged log"
             return [Finding(ALARM, f"{name}: {centre.fault}", about)]
