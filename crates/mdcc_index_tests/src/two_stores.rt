@@ -144,7 +144,7 @@ fn facts_in_cells_are_found_as_those_in_a_list(rt: HostRuntime) -> Result<(), Fa
     let alloc = rt.alloc();
     let mut list = ListFacts::new(alloc)?;
     let mut cells = PoolFacts::new(alloc, 100_000)?;
-    let added = compare(alloc, &mut list, &mut cells, 2000)?;
-    assert!(rt; added > 1500);
+    let added = compare(alloc, &mut list, &mut cells, 900)?;
+    assert!(rt; added > 600);
     Ok(())
 }

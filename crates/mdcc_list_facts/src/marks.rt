@@ -1,7 +1,7 @@
 //! The votes at one ballot, in the order of their transactions.
 ghost use Rattle.std.specs.Prelude.{◌≡◌, find, reverse};
 ghost use Rattle.mdcc_facts.specs.Walks.{each_kept, entry_list, is_next_tx, least_from, lower_passing, next_tx};
-ghost use Rattle.mdcc_facts.specs.Weights.{counted, with_mark};
+ghost use Rattle.mdcc_facts.specs.Weights.{with_mark};
 ghost use Rattle.mdcc_protocol.specs.Facts.{ballot_voted, last_ballot, marks_voted, votes_of};
 ghost use Rattle.mdcc_protocol.specs.Stores.{is_above};
 ghost use Rattle.mdcc_protocol.specs.Plain.{plain_entries_at, plain_mark_after, plain_mark_below};
@@ -175,20 +175,13 @@ pub(crate) fn mark_below(
     mark_after(facts, key, version, below, &last)
 }
 
-/// One more where the test holds.
-pub(crate) fn counted(test: bool, count: u32) -> u32
-    ensures { result ≡ counted test count }
-{
-    if test { count.saturating_add(1) } else { count }
-}
-
 // The counts with one more mark, where there is one.
 fn with_mark(counts: (u32, u32), tx: TxId, mark: Option<Mark>) -> (u32, u32)
     ensures { result ≡ fold with_mark counts (entry_list tx mark) }
 {
     match mark {
-        Some(Mark::Accept(_)) => (counted(true, counts.0), counted(false, counts.1)),
-        Some(Mark::Reject) => (counted(false, counts.0), counted(true, counts.1)),
+        Some(Mark::Accept(_)) => (counts.0.saturating_add(1), counts.1),
+        Some(Mark::Reject) => (counts.0, counts.1.saturating_add(1)),
         None => counts,
     }
 }

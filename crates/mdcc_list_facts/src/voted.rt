@@ -1,5 +1,5 @@
 //! All votes of an instance at one ballot, in one pass.
-ghost use Rattle.std.specs.Prelude.{◌≡◌, [], IfOk, IsTrue, OnOk, is_some, reverse};
+ghost use Rattle.std.specs.Prelude.{◌≡◌, IfOk, IsTrue, OnOk, is_some, reverse};
 ghost use Rattle.std.specs.Option.{option_copied};
 ghost use Rattle.mdcc_base.specs.Counts.{number_of};
 ghost use Rattle.mdcc_facts.specs.Listed.{are_voted_once};
@@ -40,17 +40,6 @@ pub(crate) fn marks_voted<'a>(
     }
 }
 
-// Takes the marks whole, where there are none yet.
-#[tactic(auto, using(mdcc_facts::proofs::Gathered::first_union))]
-fn take_first(alloc: Global, votes: &mut Options, marks: &Options) -> Result<(), Memory>
-    requires { votes.old ≡ [] }
-    ensures { OnOk result (votes.new ≡ union votes.old marks.now) }
-{
-    let _most = marks.len();
-    *votes = marks.copy(alloc)?;
-    Ok(())
-}
-
 // Adds the marks of transactions that have none, one after the other.
 fn insert_marks(votes: &mut Options, marks: &Options) -> Result<(), Memory>
     ensures { OnOk result (votes.new ≡ union votes.old marks.now) }
@@ -64,12 +53,15 @@ fn insert_marks(votes: &mut Options, marks: &Options) -> Result<(), Memory>
     Ok(())
 }
 
-// Adds the marks of transactions that have none.
+// Adds the marks of transactions that have none: where there are none yet, they are taken whole.
+#[tactic(auto, using(mdcc_facts::proofs::Gathered::first_union))]
 fn join_marks(alloc: Global, votes: &mut Options, marks: &Options) -> Result<(), Memory>
     ensures { OnOk result (votes.new ≡ union votes.old marks.now) }
 {
     if votes.is_empty() {
-        take_first(alloc, votes, marks)
+        let _most = marks.len();
+        *votes = marks.copy(alloc)?;
+        Ok(())
     } else {
         insert_marks(votes, marks)
     }
