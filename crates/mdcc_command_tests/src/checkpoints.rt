@@ -1,5 +1,5 @@
 //! A log that is long enough for a checkpoint.
-use crate::program::{NO_FAULTS, ONE, disks_of, run_on, run_on_log};
+use crate::program::{NO_FAULTS, ONE, disks_of, run_on};
 use mdcc_link::MemoryLink;
 use std::alloc::Global;
 use std::process::Abort;
@@ -38,16 +38,6 @@ fn boots_area(alloc: Global, boots: u32) -> Result<Vec<u8>, Fail> {
     }
     area.push(0)?;
     Ok(area)
-}
-
-// The lines of so many boots.
-fn boots_lines(alloc: Global, boots: u32) -> Result<String, Fail> {
-    let mut lines = String::new(alloc);
-    for number in 0..boots {
-        let epoch = number + 1;
-        write!(lines, "{epoch} booted {epoch}\n")?;
-    }
-    Ok(lines)
 }
 
 // The log has one frame too few, which the next boot brings.
@@ -107,16 +97,4 @@ fn a_configuration_says_when_a_checkpoint_is_due(rt: HostRuntime) -> Result<(), 
     check_due(&rt, alloc, AFTER_FOUR, 2, false)?;
     check_due(&rt, alloc, AFTER_FOUR, 3, true)?;
     check_due(&rt, alloc, AFTER_1025, DUE - 1, false)
-}
-
-#[test]
-fn a_long_dump_is_the_same_before_and_after_a_checkpoint(rt: HostRuntime) -> Result<(), Fail> {
-    let alloc = rt.alloc();
-    let log = boots_log(alloc, DUE)?;
-    let lines = boots_lines(alloc, DUE)?;
-    let before = run_on_log(alloc, &["dump", "1"], ONE, &log, &[])?;
-    assert!(rt; before.is(lines.as_str(), "", 0));
-    let after = run_on_log(alloc, &["dump", "1"], ONE, &log, &boots_area(alloc, DUE)?)?;
-    assert!(rt; after.is(lines.as_str(), "", 0));
-    Ok(())
 }

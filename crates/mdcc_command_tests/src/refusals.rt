@@ -59,39 +59,6 @@ fn configurations(rt: HostRuntime) -> Result<(), Fail> {
     Ok(())
 }
 
-// The rest of a configuration behind its quorums and gamma.
-const HOSTS: &str = r#""hosts":["127.0.0.1"],"port":9000}"#;
-
-#[test]
-fn quorums_and_bounds(rt: HostRuntime) -> Result<(), Fail> {
-    for (sizes, bounds, err) in [
-        (
-            r#""centres":1,"classic":1,"fast":2"#,
-            "[[0,1000]]",
-            "mdcc: config: Quorums\n",
-        ),
-        (
-            r#""centres":0,"classic":0,"fast":0"#,
-            "[[0,1000]]",
-            "mdcc: config: Quorums\n",
-        ),
-        (
-            r#""centres":1,"classic":1,"fast":1"#,
-            "[]",
-            "mdcc: config: Schema\n",
-        ),
-        (
-            r#""centres":1,"classic":1,"fast":1"#,
-            "[[1,0]]",
-            "mdcc: config: Schema\n",
-        ),
-    ] {
-        let input = format!(in rt.alloc(); "{{{sizes},\"gamma\":100,\"bounds\":{bounds},{HOSTS}")?;
-        check_config(&rt, rt.alloc(), input.as_str(), err)?;
-    }
-    Ok(())
-}
-
 // The centres 0, 2 and 4294967295 of one.
 const NO_CENTRE: [&[&str]; 7] = [
     &["node", "0", "3"],
