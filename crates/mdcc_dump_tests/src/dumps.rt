@@ -10,36 +10,10 @@ use std::test::Fail;
 const ONE: &str =
     "{\"centres\":1,\"classic\":1,\"fast\":1,\"gamma\":100,\"bounds\":[[0,1000]],\"hosts\":[\"127.0.0.1\"],\"port\":9000,\"cells\":100}";
 
-// The choice that inserts `a` with value 10, as transaction 1.1.1.
-const CHOICE: [u8; 42] = [
-    1, 1, 0, 0, 0, 1, 0, 0, 0, 1, 97, 0, 0, 0, 0, 0, 0, 0, 0, 1, 0, 1, 10, 0, 0, 0, 0, 0, 0, 0, 0,
-    1, 1, 97, 0, 0, 0, 0, 0, 0, 0, 0,
-];
-
 // The log of a boot alone.
 const BOOTED: [u8; 19] = [
     77, 68, 67, 67, 76, 79, 71, 49, 1, 5, 0, 0, 0, 1, 1, 0, 0, 0, 0,
 ];
-
-// The frames of the vote for that choice at ballot 0.0.0 and of its commit, up to the choice of each.
-const VOTED: [u8; 30] = [
-    1, 68, 0, 0, 0, 3, 1, 97, 0, 0, 0, 0, 0, 0, 0, 0, 0, 0, 0, 0, 0, 0, 0, 0, 0, 1, 0, 0, 0, 1,
-];
-
-const HEARD: [u8; 17] = [1, 54, 0, 0, 0, 4, 1, 1, 0, 0, 0, 1, 0, 0, 0, 1, 1];
-
-// The log of a boot, that vote and that commit.
-fn insert_log(alloc: Global) -> Result<Vec<u8>, Fail> {
-    let mut log = Vec::new(alloc);
-    log.extend_from_slice(&BOOTED[..18])?;
-    log.extend_from_slice(&VOTED)?;
-    log.extend_from_slice(&CHOICE)?;
-    log.extend_from_slice(&[0])?;
-    log.extend_from_slice(&HEARD)?;
-    log.extend_from_slice(&CHOICE)?;
-    log.extend_from_slice(&[0])?;
-    Ok(log)
-}
 
 // What a dump wrote and answered.
 #[derive(Drop)]
@@ -80,53 +54,6 @@ fn disks_of(alloc: Global, log: &[u8]) -> Result<MemoryDisks, Fail> {
     let mut disks = MemoryDisks::new(alloc, 25, &[]).ok().ok_or("disks")?;
     disks.write_at(1, 0, log).ok().ok_or("a write")?;
     Ok(disks)
-}
-
-#[test]
-fn an_insert(rt: HostRuntime) -> Result<(), Fail> {
-    let alloc = rt.alloc();
-    let log = insert_log(alloc)?;
-    let mut disks = disks_of(alloc, log.as_slice())?;
-    // The second time the same, since nothing was appended.
-    for _turn in 0..2 {
-        let ran = dumped(alloc, 1, &mut disks)?;
-        assert!(rt;
-            is_dump(
-                &ran,
-                "1 booted 1\n2 voted a 0 0.0.0 1.1.1 accept\n3 heard 1.1.1 commit\n",
-                "",
-                0
-            )
-        );
-    }
-    Ok(())
-}
-
-#[test]
-fn other_logs(rt: HostRuntime) -> Result<(), Fail> {
-    let alloc = rt.alloc();
-    let mut empty = disks_of(alloc, &[])?;
-    assert!(rt; is_dump(&dumped(alloc, 1, &mut empty)?, "", "", 0));
-    let mut booted = disks_of(alloc, &BOOTED)?;
-    assert!(rt; is_dump(&dumped(alloc, 1, &mut booted)?, "1 booted 1\n", "", 0));
-    assert!(rt;
-        is_dump(
-            &dumped(alloc, 2, &mut booted)?,
-            "",
-            "mdcc: config: Centre\n",
-            3
-        )
-    );
-    let mut other = disks_of(alloc, b"something else")?;
-    assert!(rt;
-        is_dump(
-            &dumped(alloc, 1, &mut other)?,
-            "",
-            "mdcc: log 1: NotALog 0\n",
-            9
-        )
-    );
-    Ok(())
 }
 
 // Three centres.
