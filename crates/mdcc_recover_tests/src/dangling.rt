@@ -151,28 +151,6 @@ fn a_vote_that_was_taken_goes_first(rt: HostRuntime) -> Result<(), Fail> {
     Ok(())
 }
 
-// The vote that would decide is not taken: its key is led at the fourth tick.
-#[test]
-fn a_vote_that_would_decide_is_not_taken(rt: HostRuntime) -> Result<(), Fail> {
-    let cluster = cluster()?;
-    let store = voted(rt.alloc(), b"ab")?;
-    let mut recover = Recover::new(rt.alloc())?;
-    wait(&rt, &mut recover, &store, &[])?;
-    ask(&rt, &mut recover, &store)?;
-    take(&rt, &mut recover, &store, b'a', &[2, 3, 4, 5])?;
-    take(&rt, &mut recover, &store, b'b', &[2, 3, 4])?;
-    let last = accepting(5, b'b');
-    assert_eq!(rt;
-        committed(&recover.would_decide(&store, &cluster, &last)),
-        Some(2)
-    );
-    wait(&rt, &mut recover, &store, &[])?;
-    let acts = recover.tick(&store, &[])?;
-    assert_eq!(rt; acts.len(), 1);
-    assert_eq!(rt; led(&acts, 0).map(|claim| claim.key), Some(key(b'b')));
-    Ok(())
-}
-
 // A transaction that is open here is not counted. Four rejections of one key abort it.
 #[test]
 fn one_rejected_key_aborts(rt: HostRuntime) -> Result<(), Fail> {

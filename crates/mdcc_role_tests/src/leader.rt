@@ -191,20 +191,6 @@ fn force_the_first(
     Ok(())
 }
 
-// Of the last three centres all voted the second.
-#[test]
-fn the_last_three_force_the_second_insert(rt: HostRuntime) -> Result<(), Fail> {
-    let cluster = cluster()?;
-    let store = ListFacts::new(rt.alloc())?;
-    let mut leader = asking(&rt, rt.alloc(), &store, &cluster, &claim_of(&insert()))?;
-    let second = promise(0, 100, second_won(rt.alloc())?);
-    let _waiting = promised(&mut leader, &store, &cluster, 3, &second)?;
-    let _waiting = promised(&mut leader, &store, &cluster, 4, &second)?;
-    let options = structure(&mut leader, &store, &cluster, 5, &second)?;
-    assert!(rt; are_marked(&options, false));
-    Ok(())
-}
-
 // An add of this amount to version 1.
 fn add_of(seq: u32, amount: i64) -> Choice {
     let amounts = BoundedList::from_slice(&[(1, amount)]).unwrap_or_default();

@@ -1,4 +1,4 @@
-//! Tests of the roles of a centre, and of the outcomes of a cluster, over the list store.
+//! Tests of the roles of a centre over the list store.
 #![tactic(auto)]
 
 #[cfg(test)]
@@ -7,8 +7,6 @@ mod acceptor;
 mod leader;
 #[cfg(test)]
 mod manager;
-#[cfg(test)]
-mod outcomes;
 #[cfg(test)]
 mod values;
 #[cfg(test)]
