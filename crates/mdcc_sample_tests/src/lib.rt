@@ -1,5 +1,0 @@
-//! Tests of sample schedules, against texts that another program made.
-#![tactic(auto)]
-
-#[cfg(test)]
-mod samples;
