@@ -1,3 +1,4 @@
+pub mod Alone
 pub mod Booting
 pub mod Durable
 pub mod Lasts

@@ -1,7 +1,8 @@
 //! Nodes that make durable in groups, crash with or without their last one, and boot again: their ledger is allowed, and their messages tell the
-//! truth.
+//! truth. A step of a replay is a group of one.
 #![tactic(auto)]
 
+ghost use Rattle.mdcc_groups.specs.Alone.{StepsGoOutAlone};
 ghost use Rattle.mdcc_groups.specs.Groups.{GoodStepsSuffice};
 ghost use Rattle.mdcc_groups.specs.Nodes.{EventsKeepSound, NodesAreSound};
 
@@ -17,4 +18,10 @@ pub fn groups_stand()
 pub fn nodes_are_sound()
     ensures events { EventsKeepSound }
     ensures all { NodesAreSound }
+{}
+
+/// What a step of a replay lets out is the case of one step of what a served centre lets out: with nothing pending before, its fact becomes
+/// durable as a group of one, and then the same messages are sent and the same outcome is told as in a world where no stop strikes.
+pub fn steps_go_out_alone()
+    ensures { StepsGoOutAlone }
 {}
