@@ -20,4 +20,4 @@ pub use held::{amount_at, read_value, value_after};
 pub use items::{Amounts, Body, Delta, Item, Known, Part, Seen, Token, Update, Values, WriteSet};
 pub use one_copy::{Applied, OneCopy};
 pub use schema::{Schema, SchemaFault};
-pub use transaction::Transaction;
+pub use transaction::{Transaction, parts_fault};

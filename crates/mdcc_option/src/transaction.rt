@@ -116,8 +116,8 @@ fn place_of(parts: &[Part], key: &Key) -> usize
     parts.len()
 }
 
-// The fault of the first part that has one.
-fn parts_fault(schema: &Schema, parts: &[Part]) -> Option<DraftFault>
+/// The fault of the first part that has one. Parts of a transaction that have none make it as they stand.
+pub fn parts_fault(schema: &Schema, parts: &[Part]) -> Option<DraftFault>
     ensures { result ≡ parts_fault schema.now parts.now }
 {
     for part in parts {
