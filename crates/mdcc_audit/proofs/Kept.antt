@@ -1,11 +1,12 @@
 -- A subject of which nothing was said goes behind the others.
-use Rattle.std.proofs.Common.{◌≡◌, ℕ, Bool, List, [], false, ◌∷◌, ◌++◌, None, Some, cond, inl, inr, refl, ap}
+use Rattle.std.proofs.Common.{◌≡◌, ℕ, Bool, List, [], true, false, ◌∷◌, ◌++◌, None, Some, cond, inl, inr, refl, ap}
 use Rattle.std.proofs.lemmas.Bool.{cases_Bool}
 use Rattle.std.specs.Map.{lookup, set_value}
 use Rattle.std.specs.Prelude.{Option}
 use Rattle.indexmap.specs.IndexMap.{insert_entry}
 use Rattle.mdcc_audit.specs.Firsts.{Pair, Said, Table, first_at, say}
 use Rattle.mdcc_audit.specs.Subjects.{subject_eq}
+use Rattle.mdcc_audit.specs.Values.{value_eq}
 use Rattle.mdcc_audit.specs.Votes.{Tallies, Tally, tallied, with_given}
 use Rattle.mdcc_audit.specs.declared.firsts.First.{First}
 use Rattle.mdcc_audit.specs.declared.subjects.Subject.{Subject}
@@ -31,6 +32,12 @@ pub said-new : (old new : Table) (found : Option Pair) (subject : Subject) (firs
     → new ≡ insert_entry subject_eq old subject first
     → said new found ≡ say (said old found) subject first
 said-new old new found subject first none is = rw (is, insert-new old subject first none, ← none) refl
+
+-- what is the same as what was said first changes nothing
+pub said-again : (table : Table) (found : Option Pair) (subject : Subject) (first later : First) → Some first ≡ first_at table subject
+    → value_eq first.value later.value ≡ true
+    → say (said table found) subject later ≡ said table found
+said-again table found subject first later some same = rw (← some, same) refl
 
 -- ---- tallies
 

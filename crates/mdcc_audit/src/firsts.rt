@@ -3,12 +3,17 @@ ghost use Rattle.std.specs.Option.{option_copied};
 ghost use Rattle.std.specs.Prelude.{◌≡◌, Some, OnOk};
 ghost use Rattle.mdcc_audit.specs.Firsts.{earlier, first_at, nothing_said, place_lt, say};
 ghost use Rattle.mdcc_audit.specs.Represents.{said_in};
+ghost use Rattle.mdcc_audit.specs.Sayings.{said_at};
+ghost use Rattle.mdcc_audit.specs.declared.audited.Place.{Place as APlace};
+ghost use Rattle.mdcc_audit.specs.declared.values.Value.{Value as AValue};
+ghost use Rattle.std.specs.Bool.{OnTrue};
 
 use crate::audited::Place;
 use crate::subjects::Subject;
 use crate::values::Value;
 use indexmap::IndexMap;
-use mdcc_base::Memory;
+use mdcc_base::{Key, Memory};
+use mdcc_option::Choice;
 use std::alloc::Global;
 
 /// What a fact says.
@@ -66,6 +71,28 @@ impl Firsts {
         ensures { option_copied result ≡ first_at self.now.table.entries subject.now }
     {
         self.table.get(subject)
+    }
+
+    /// Whether just these choices were said first of a subject. To say them again changes nothing then.
+    pub(crate) fn says_choices(&self, subject: &Subject, choices: &[Choice]) -> bool
+        ensures { OnTrue result ((place : APlace)
+            → say (said_in self.now) subject.now (said_at place (AValue.Choices choices.now)) ≡ said_in self.now) }
+    {
+        match self.first_at(subject) {
+            Some(first) => first.value.is_choices(choices),
+            None => false,
+        }
+    }
+
+    /// The same of a write set.
+    pub(crate) fn says_places(&self, subject: &Subject, places: &[(Key, u64)]) -> bool
+        ensures { OnTrue result ((place : APlace)
+            → say (said_in self.now) subject.now (said_at place (AValue.Places places.now)) ≡ said_in self.now) }
+    {
+        match self.first_at(subject) {
+            Some(first) => first.value.is_places(places),
+            None => false,
+        }
     }
 
     /// A fact says something of a subject.

@@ -1,8 +1,10 @@
 //! What a fact says.
-ghost use Rattle.std.specs.Prelude.{◌≡◌, fold, OnOk, IfOk};
+ghost use Rattle.std.specs.Prelude.{◌≡◌, fold, OnOk};
 ghost use Rattle.mdcc_audit.specs.Firsts.{say};
 ghost use Rattle.mdcc_audit.specs.Represents.{said_in};
-ghost use Rattle.mdcc_audit.specs.Sayings.{mark_value, outcome_value, said_at, say_accepted, say_choice, say_choices, say_heard, say_marks, say_offered, say_outcome};
+ghost use Rattle.mdcc_audit.specs.Sayings.{mark_value, said_at, say_accepted, say_choice, say_choices, say_heard, say_marks, say_offered, say_outcome};
+ghost use Rattle.mdcc_audit.specs.Subjects.{of_tx};
+ghost use Rattle.mdcc_audit.specs.declared.values.Value.{Value as AValue};
 
 use crate::audited::Place;
 use crate::firsts::{First, Firsts};
@@ -12,25 +14,66 @@ use mdcc_base::{Ballot, Key, Memory, TxId};
 use mdcc_option::{Choice, Mark, Outcome};
 use mdcc_struct::Options;
 use std::alloc::Global;
+use std::slice;
 
-// An outcome as what is said.
-fn outcome_value(alloc: Global, outcome: &Outcome) -> Result<Value, Memory>
-    ensures { IfOk result (λ value. value ≡ outcome_value outcome.now) }
+// A fact says these choices of a subject. They are copied only where they were not said first.
+fn say_these(
+    alloc: Global,
+    firsts: &mut Firsts,
+    place: &Place,
+    subject: Subject,
+    choices: &[Choice],
+) -> Result<(), Memory>
+    ensures { OnOk result (said_in firsts.new ≡ say (said_in firsts.old) subject (said_at place.now (AValue.Choices choices.now))) }
 {
-    match outcome {
-        Outcome::Commit(choices) => Value::of_choices(alloc, choices.as_slice()),
-        Outcome::Abort => Ok(Value::Refusal),
+    if firsts.says_choices(&subject, choices) {
+        return Ok(());
     }
+    let value = Value::of_choices(alloc, choices)?;
+    firsts.say(
+        subject,
+        First {
+            place: *place,
+            value,
+        },
+    )
 }
 
-// A mark as what is said.
-fn mark_value(alloc: Global, mark: &Mark) -> Result<Value, Memory>
-    ensures { IfOk result (λ value. value ≡ mark_value mark.now) }
+// A fact says the write set of a transaction. It is copied only where it was not said first.
+fn say_places(
+    alloc: Global,
+    firsts: &mut Firsts,
+    place: &Place,
+    tx: TxId,
+    places: &[(Key, u64)],
+) -> Result<(), Memory>
+    ensures { OnOk result (said_in firsts.new ≡ say (said_in firsts.old) (of_tx tx) (said_at place.now (AValue.Places places.now))) }
 {
-    match mark {
-        Mark::Accept(choice) => Value::of_choice(alloc, choice),
-        Mark::Reject => Ok(Value::Refusal),
+    let subject = Subject::of_tx(tx);
+    if firsts.says_places(&subject, places) {
+        return Ok(());
     }
+    let value = Value::of_places(alloc, places)?;
+    firsts.say(
+        subject,
+        First {
+            place: *place,
+            value,
+        },
+    )
+}
+
+// A fact says that a subject aborts, or is rejected.
+fn say_refusal(firsts: &mut Firsts, place: &Place, subject: Subject) -> Result<(), Memory>
+    ensures { OnOk result (said_in firsts.new ≡ say (said_in firsts.old) subject (said_at place.now AValue.Refusal)) }
+{
+    firsts.say(
+        subject,
+        First {
+            place: *place,
+            value: Value::Refusal,
+        },
+    )
 }
 
 /// A fact says the outcome of a transaction.
@@ -43,14 +86,11 @@ pub(crate) fn say_outcome(
 ) -> Result<(), Memory>
     ensures { OnOk result (said_in outcomes.new ≡ say_outcome (said_in outcomes.old) place.now tx outcome.now) }
 {
-    let value = outcome_value(alloc, outcome)?;
-    outcomes.say(
-        Subject::of_tx(tx),
-        First {
-            place: *place,
-            value,
-        },
-    )
+    let subject = Subject::of_tx(tx);
+    match outcome {
+        Outcome::Commit(choices) => say_these(alloc, outcomes, place, subject, choices.as_slice()),
+        Outcome::Abort => say_refusal(outcomes, place, subject),
+    }
 }
 
 // A fact says the mark of a transaction in an instance at a ballot.
@@ -63,14 +103,10 @@ fn say_mark(
 ) -> Result<(), Memory>
     ensures { OnOk result (said_in marks.new ≡ say (said_in marks.old) subject (said_at place.now (mark_value mark.now))) }
 {
-    let value = mark_value(alloc, mark)?;
-    marks.say(
-        subject,
-        First {
-            place: *place,
-            value,
-        },
-    )
+    match mark {
+        Mark::Accept(choice) => say_these(alloc, marks, place, subject, slice::from_ref(choice)),
+        Mark::Reject => say_refusal(marks, place, subject),
+    }
 }
 
 /// A vote at a classic ballot says the marks in the instance.
@@ -105,21 +141,14 @@ pub(crate) fn say_choice(
 ) -> Result<(), Memory>
     ensures { OnOk result (said_in choices.new ≡ say_choice place.now (said_in choices.old) choice.now) }
 {
-    let value = Value::of_choice(alloc, choice)?;
-    choices.say(
-        Subject::of_key(choice.tx, &choice.key),
-        First {
-            place: *place,
-            value,
-        },
-    )?;
-    let value = Value::of_places(alloc, choice.write_set.as_slice())?;
-    choices.say(
-        Subject::of_tx(choice.tx),
-        First {
-            place: *place,
-            value,
-        },
+    let subject = Subject::of_key(choice.tx, &choice.key);
+    say_these(alloc, choices, place, subject, slice::from_ref(choice))?;
+    say_places(
+        alloc,
+        choices,
+        place,
+        choice.tx,
+        choice.write_set.as_slice(),
     )
 }
 

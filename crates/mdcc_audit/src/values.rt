@@ -1,9 +1,10 @@
 //! What is said of a transaction or of one of its options.
-ghost use Rattle.std.specs.Prelude.{◌≡◌, ◌∷◌, [], IfOk, map};
+ghost use Rattle.std.specs.Prelude.{◌≡◌, IfOk};
 ghost use Rattle.mdcc_option.specs.Equality.{choices_eq, write_set_eq};
 ghost use Rattle.mdcc_audit.specs.Values.{value_eq};
 ghost use Rattle.mdcc_audit.specs.declared.values.Value.{Value as AValue};
 
+use mdcc_base::bounded_list::same_values;
 use mdcc_base::{HeapList, Key, Memory, Plain};
 use mdcc_option::Choice;
 use std::alloc::Global;
@@ -18,17 +19,17 @@ pub enum Value {
 }
 
 // Whether they are the same choices.
-fn same_choices(a: &HeapList<Choice>, b: &HeapList<Choice>) -> bool
+fn same_choices(a: &[Choice], b: &[Choice]) -> bool
     ensures { result ≡ choices_eq a.now b.now }
 {
-    a.same(b)
+    same_values(a, b)
 }
 
 // Whether they are one write set.
-fn same_places(a: &HeapList<(Key, u64)>, b: &HeapList<(Key, u64)>) -> bool
+fn same_places(a: &[(Key, u64)], b: &[(Key, u64)]) -> bool
     ensures { result ≡ write_set_eq a.now b.now }
 {
-    a.same(b)
+    same_values(a, b)
 }
 
 impl Value {
@@ -37,9 +38,29 @@ impl Value {
         ensures { result ≡ value_eq self.now other.now }
     {
         match (self, other) {
-            (Value::Choices(a), Value::Choices(b)) => same_choices(a, b),
-            (Value::Places(a), Value::Places(b)) => same_places(a, b),
+            (Value::Choices(a), Value::Choices(b)) => same_choices(a.as_slice(), b.as_slice()),
+            (Value::Places(a), Value::Places(b)) => same_places(a.as_slice(), b.as_slice()),
             (Value::Refusal, Value::Refusal) => true,
+            _ => false,
+        }
+    }
+
+    /// Whether it is these choices.
+    pub(crate) fn is_choices(&self, choices: &[Choice]) -> bool
+        ensures { result ≡ value_eq self.now (AValue.Choices choices.now) }
+    {
+        match self {
+            Value::Choices(kept) => same_choices(kept.as_slice(), choices),
+            _ => false,
+        }
+    }
+
+    /// Whether it is this write set.
+    pub(crate) fn is_places(&self, places: &[(Key, u64)]) -> bool
+        ensures { result ≡ value_eq self.now (AValue.Places places.now) }
+    {
+        match self {
+            Value::Places(kept) => same_places(kept.as_slice(), places),
             _ => false,
         }
     }
@@ -52,15 +73,6 @@ impl Value {
         for choice in choices {
             copies.push(choice.copy())?;
         }
-        Ok(Value::Choices(copies))
-    }
-
-    /// A copy of one choice.
-    pub(crate) fn of_choice(alloc: Global, choice: &Choice) -> Result<Value, Memory>
-        ensures { IfOk result (λ value. value ≡ AValue.Choices (choice.now ∷ [])) }
-    {
-        let mut copies = HeapList::new(alloc);
-        copies.push(choice.copy())?;
         Ok(Value::Choices(copies))
     }
 
