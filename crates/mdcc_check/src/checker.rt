@@ -1,5 +1,5 @@
 //! What the lines of a history so far came to.
-ghost use Rattle.std.specs.Prelude.{◌≡◌, IfOk, IsOkAnd, OnOk, None, Some};
+ghost use Rattle.std.specs.Prelude.{◌≡◌, ◌≤◌, IfOk, IsOkAnd, OnOk, None, Some, length};
 ghost use Rattle.mdcc_option.specs.Transaction.{choices_of};
 ghost use Rattle.mdcc_check.specs.declared.history.HistoryCause.{HistoryCause as ACause};
 ghost use Rattle.mdcc_check.specs.declared.history.HistoryLine.{HistoryLine as ALine};
@@ -11,7 +11,7 @@ use crate::versions::{VersionTable, keep_all};
 use crate::{HistoryCause, HistoryLine};
 use indexmap::{IndexMap, IndexSet};
 use mdcc_base::{Memory, TxId};
-use mdcc_option::{Applied, Choice, Known, OneCopy, Schema, Transaction};
+use mdcc_option::{Applied, Choice, Known, OneCopy, Part, Schema, Transaction};
 use std::alloc::Global;
 
 /// Checks the lines of a history one after another, and keeps none of them: the one-copy store after the commits so far, their
@@ -87,7 +87,25 @@ impl Checker {
         ensures kept { (p : Progress) → Represents self.old p
             → IfOk result (λ cause. (fault : ACause) → cause ≡ Some fault → Represents self.new p) }
     {
-        let choices = choices_of(self.alloc, tx, transaction.parts())?;
+        self.commit_parts(schema, tx, transaction.parts())
+    }
+
+    /// The same, of the parts of the transaction in key order.
+    pub fn commit_parts(
+        &mut self,
+        schema: &Schema,
+        tx: &TxId,
+        parts: &[Part],
+    ) -> Result<Option<HistoryCause>, Memory>
+        requires { length parts.now ≤ 8 }
+        ensures cause { (p : Progress) → Represents self.old p
+            → IfOk result (λ cause. cause ≡ line_cause schema.now p (ALine.Commit tx.now parts.now)) }
+        ensures after { (p : Progress) → Represents self.old p
+            → IfOk result (λ cause. cause ≡ None → Represents self.new (after_line schema.now p (ALine.Commit tx.now parts.now))) }
+        ensures kept { (p : Progress) → Represents self.old p
+            → IfOk result (λ cause. (fault : ACause) → cause ≡ Some fault → Represents self.new p) }
+    {
+        let choices = choices_of(self.alloc, tx, parts)?;
         self.commit_choices(schema, tx, choices.as_slice())
     }
 
