@@ -13,6 +13,7 @@ pub mod Left
 pub mod LoadsLeft
 pub mod MarksLeft
 pub mod NextMark
+pub mod OriginsLeft
 pub mod PastVotes
 pub mod ThroughLeft
 pub mod Tops

@@ -6,6 +6,7 @@ pub mod Growth
 pub mod Loads
 pub mod Marks
 pub mod Offers
+pub mod Origins
 pub mod Rest
 pub mod Unsettled
 pub mod Versions

@@ -45,7 +45,7 @@ abbrev pub are_choices_own : Fact → Bool
 are_choices_own (Fact.Heard tx (Outcome.Commit choices)) = list_all (λ choice. tx_eq choice.tx tx) choices
 are_choices_own _ = true
 
--- no delta that was adopted at the version held is of an idle transaction. In an allowed ledger it is a committed choice of that version, so it is needed
+-- no delta that was adopted at the version held is of an idle transaction: one that is a committed choice of that version is needed
 abbrev pub is_adoption_live : List Fact → Fact → Bool
 is_adoption_live all (Fact.Adopted key version item adds) = nat_lt version (current_of all key) || list_all (λ delta. not (is_idle all delta.tx)) adds
 is_adoption_live all _ = true
