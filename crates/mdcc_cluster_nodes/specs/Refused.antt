@@ -2,7 +2,7 @@
 use Rattle.std.specs.Prelude.{Err, List, Ok, Option, [], true, ℕ, ◌+◌, ◌≡◌}
 use Rattle.mdcc_centre.specs.Nodes.{booted}
 use Rattle.mdcc_config.specs.declared.config.Config.{Config}
-use Rattle.mdcc_disks.specs.Disks.{Disk}
+use Rattle.mdcc_disks.specs.Disks.{Disk, Only}
 use Rattle.mdcc_endings.specs.Logs.{IsTold}
 use Rattle.mdcc_link.specs.Link.{LinkCall}
 use Rattle.mdcc_log_file.specs.Area.{payloads}
@@ -19,11 +19,14 @@ abbrev pub areas_on : {D : Type 0} → (D → ℕ → Disk) → D → ℕ → Ar
 areas_on disk disks a = record { first = (disk disks a).bytes; second = (disk disks (a + 16)).bytes }
 
 -- Where no node boots from the log that it found, by the clause `refused` of its contract (`HasRefused`) it lived a life without an act, and left the
--- areas with the same log.
-abbrev pub RefusedCallsDoNothing : {D L : Type 0} → Type 0 → (D → ℕ → Disk) → (L → Option (List LinkCall)) → (L → ℕ) → Type 0
-RefusedCallsDoNothing {D = D} {L = L} O disk calls lost =
+-- areas with the same log; and so it is of whatever a crash leaves of areas that were durable, on disks that tear no byte to 1.
+abbrev pub RefusedCallsDoNothing : {D L : Type 0} → Type 0 → (D → ℕ → Disk) → (D → ℕ → List ℕ → Type 0) → (ℕ → Type 0) → (L → Option (List LinkCall)) → (L → ℕ) → Type 0
+RefusedCallsDoNothing {D = D} {L = L} O disk may_leave tears calls lost =
     (config : Config) (log : Log) (why : BootFault) (disks_before disks_after : D) (link_before link_after : L) (out_before out_after : O)
     → is_centre config.cluster log.centre ≡ true → IsTold disk disks_before log.centre
     → payloads (areas_on disk disks_before log.centre).first (areas_on disk disks_before log.centre).second ≡ Ok (encodings_of log.facts) → booted config.cluster (encodings_of log.facts) ≡ Err why
-    → HasRefused disk calls lost config.cluster log.centre (log.centre + 1) disks_before disks_after link_before link_after out_before out_after
+    → HasRefused disk may_leave tears calls lost config.cluster log.centre (log.centre + 1) disks_before disks_after link_before link_after out_before out_after
     → LivesOver config log [] (areas_on disk disks_after log.centre)
+    × ((left : Areas) → (tears 1 → ⊥) → Only (areas_on disk disks_before log.centre).first (may_leave disks_before log.centre)
+    → Only (areas_on disk disks_before log.centre).second (may_leave disks_before (log.centre + 16))
+    → may_leave disks_after log.centre left.first → may_leave disks_after (log.centre + 16) left.second → LivesOver config log [] left)

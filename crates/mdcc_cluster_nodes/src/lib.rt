@@ -19,9 +19,9 @@ pub fn calls_are_lives<D: Disks, L: Link, O: Sink>()
     ensures { CallsAreLives D.disk D.may_leave D.tears L.calls L.lost O.held }
 {}
 
-/// A call that refuses its log, since no node boots from it, is a life without an act.
+/// A call that refuses its log, since no node boots from it, is a life without an act, whatever a crash leaves of the log then.
 pub fn refused_calls_do_nothing<D: Disks, L: Link, O: Sink>()
-    ensures { RefusedCallsDoNothing O D.disk L.calls L.lost }
+    ensures { RefusedCallsDoNothing O D.disk D.may_leave D.tears L.calls L.lost }
 {}
 
 /// So a call of `serve_cluster` is a life of each of its centres: each of its acts is done by one of them, and those of each are a life

@@ -8,6 +8,7 @@ use Rattle.mdcc_log_file.specs.declared.fault.LogFault.{LogFault}
 use Rattle.mdcc_messages.specs.declared.facts.Fact.{Fact}
 use Rattle.mdcc_option.specs.declared.cluster.Cluster.{Cluster}
 use Rattle.mdcc_serve.proofs.Together.{untouched_log}
+use Rattle.mdcc_serve.proofs.Untaken.{not_ok}
 use Rattle.mdcc_serve.specs.Refusals.{AllBoot, LacksNode, SaysAt}
 use Rattle.mdcc_serve.specs.Starts.{FailsToStart, IsUntouched}
 use Rattle.mdcc_serve.specs.Stays.{AllStay, NeverServed, OnFullBoot, UnlessDisk}
@@ -33,9 +34,5 @@ module _ {D : Type 0} (disk : D → ℕ → Disk) (may_leave : D → ℕ → Lis
 
 -- ---- where no node boots from one of the logs
 
-no_node : (r : Result (List Fact) LogRefusal) (why : LogRefusal) → r ≡ Err why → IsTrue (is_ok r) → ⊥
-no_node (Ok facts) why is ok = absurd (cc)
-no_node (Err other) why is ok = absurd (cc)
-
 pub lacks_none : {D : Type 0} (disk : D → ℕ → Disk) (cluster : Cluster) (disks : D) (first end : ℕ) → LacksNode disk cluster disks first end → AllBoot disk cluster disks first end → ⊥
-lacks_none disk cluster disks first end lacks all = no_node (node_at disk cluster disks lacks.at) lacks.why lacks.is (all lacks.at lacks.from lacks.to lacks.told)
+lacks_none disk cluster disks first end lacks all = not_ok (node_at disk cluster disks lacks.at) lacks.why lacks.is (all lacks.at lacks.from lacks.to lacks.told)

@@ -3,7 +3,7 @@ use Rattle.std.proofs.Common.{◌≡◌, ℕ, ◌+◌, ◌≤◌, List, [], Resu
 use Rattle.std.proofs.lemmas.Bool.{cases_eq}
 use Rattle.mdcc_log_file.specs.Area.{payloads}
 use Rattle.mdcc_log_file.specs.Both.{KeepsBut}
-use Rattle.mdcc_disks.specs.Disks.{Disk}
+use Rattle.mdcc_disks.specs.Disks.{Disk, Within}
 use Rattle.mdcc_endings.specs.Logs.{IsTold}
 use Rattle.mdcc_messages.specs.Spelling.{encodings_of}
 use Rattle.mdcc_messages.specs.declared.facts.Fact.{Fact}
@@ -28,17 +28,21 @@ same_lists r all more one two = let both : Ok all ≡ Ok more = sym one ∙ two 
 
 -- ---- a log to whose disks nothing was done
 
-pub log_stood : {D : Type 0} (disk : D → ℕ → Disk) (cluster : Cluster) (old new : D) (a : ℕ) → disk new a ≡ disk old a → disk new (a + 16) ≡ disk old (a + 16) → LogStays disk cluster old new a
-log_stood disk cluster old new a here there = record {
+pub log_stood : {D : Type 0} (disk : D → ℕ → Disk) (may_leave : D → ℕ → List ℕ → Type 0) (tears : ℕ → Type 0) (cluster : Cluster) (old new : D) (a : ℕ) → disk new a ≡ disk old a → disk new (a + 16) ≡ disk old (a + 16)
+    → Within (may_leave old a) (may_leave new a) → Within (may_leave old (a + 16)) (may_leave new (a + 16)) → LogStays disk may_leave tears cluster old new a
+log_stood disk may_leave tears cluster old new a here there crash crash_other = record {
   read = λ all told is. inl (ap (λ (d : Disk). payloads d.bytes (disk new (a + 16)).bytes) here ∙ (ap (λ (d : Disk). payloads (disk old a).bytes d.bytes) there ∙ is));
+  crash = λ all first second never told only only_other is left left_second.
+      inl (ap (λ (bytes : List ℕ). payloads bytes second) (only first (crash first left)) ∙ (ap (λ (bytes : List ℕ). payloads (disk old a).bytes bytes) (only_other second (crash_other second left_second)) ∙ is));
   unread = λ offset told is. (ap (λ (d : Disk). d.bytes) here, ap (λ (d : Disk). d.bytes) there);
 }
 
 -- it stands where it stood before
-pub log_stays_on : {D : Type 0} (disk : D → ℕ → Disk) (cluster : Cluster) (old mid new : D) (a : ℕ) → disk new a ≡ disk mid a → disk new (a + 16) ≡ disk mid (a + 16)
-    → LogStays disk cluster old mid a → LogStays disk cluster old new a
-log_stays_on disk cluster old mid new a here there stays = record {
+pub log_stays_on : {D : Type 0} (disk : D → ℕ → Disk) (may_leave : D → ℕ → List ℕ → Type 0) (tears : ℕ → Type 0) (cluster : Cluster) (old mid new : D) (a : ℕ) → disk new a ≡ disk mid a → disk new (a + 16) ≡ disk mid (a + 16)
+    → Within (may_leave mid a) (may_leave new a) → Within (may_leave mid (a + 16)) (may_leave new (a + 16)) → LogStays disk may_leave tears cluster old mid a → LogStays disk may_leave tears cluster old new a
+log_stays_on disk may_leave tears cluster old mid new a here there crash crash_other stays = record {
   read = λ all told is. subst (MayHaveBoot cluster all) (sym same) (stays.read all told is);
+  crash = λ all first second never told only only_other is left left_second. stays.crash all first second never told only only_other is (crash first left) (crash_other second left_second);
   unread = λ offset told is. (let was = stays.unread offset told is in (ap (λ (d : Disk). d.bytes) here ∙ was.0, ap (λ (d : Disk). d.bytes) there ∙ was.1));
 }
   where
@@ -46,10 +50,13 @@ log_stays_on disk cluster old mid new a here there stays = record {
     same = ap (λ (d : Disk). payloads d.bytes (disk new (a + 16)).bytes) here ∙ ap (λ (d : Disk). payloads (disk mid a).bytes d.bytes) there
 
 -- of a log to which nothing was done yet it is the same to speak of what stands now
-pub log_stays_since : {D : Type 0} (disk : D → ℕ → Disk) (cluster : Cluster) (old mid new : D) (a : ℕ) → disk mid a ≡ disk old a → disk mid (a + 16) ≡ disk old (a + 16)
-    → LogStays disk cluster mid new a → LogStays disk cluster old new a
-log_stays_since disk cluster old mid new a here there stays = record {
+pub log_stays_since : {D : Type 0} (disk : D → ℕ → Disk) (may_leave : D → ℕ → List ℕ → Type 0) (tears : ℕ → Type 0) (cluster : Cluster) (old mid new : D) (a : ℕ) → disk mid a ≡ disk old a → disk mid (a + 16) ≡ disk old (a + 16)
+    → Within (may_leave old a) (may_leave mid a) → Within (may_leave old (a + 16)) (may_leave mid (a + 16)) → LogStays disk may_leave tears cluster mid new a → LogStays disk may_leave tears cluster old new a
+log_stays_since disk may_leave tears cluster old mid new a here there crash crash_other stays = record {
   read = λ all told is. stays.read all (told_still told) (same ∙ is);
+  crash = λ all first second never told only only_other is left left_second.
+      stays.crash all first second never (told_still told) (λ c before. only c (crash c before) ∙ sym (ap (λ (d : Disk). d.bytes) here))
+      (λ c before. only_other c (crash_other c before) ∙ sym (ap (λ (d : Disk). d.bytes) there)) (same ∙ is) left left_second;
   unread = λ offset told is. (let now = stays.unread offset (told_still told) (same ∙ is) in (now.0 ∙ ap (λ (d : Disk). d.bytes) here, now.1 ∙ ap (λ (d : Disk). d.bytes) there));
 }
   where
@@ -106,6 +113,6 @@ module _ {D : Type 0} (disk : D → ℕ → Disk) (may_leave : D → ℕ → Lis
       cause = tt;
       passes = disks_same disk may_leave disks;
       others = others_same disk may_leave centre disks;
-      stays = log_stood disk cluster disks disks centre refl refl;
+      stays = log_stood disk may_leave tears cluster disks disks centre refl refl (λ c left. left) (λ c left. left);
       over = λ log of is. record { comes = tt; boots = tt; full = tt; kept = λ durable safe. durable_has disks log [] durable is.has };
     }

@@ -1,5 +1,5 @@
 -- A centre that runs over its log, or why none does.
-use Rattle.std.proofs.Common.{◌≡◌, ℕ, ◌+◌, ◌++◌, ◌∷◌, ◌<◌, [], List, IsTrue, Result, Ok, Err, refl, sym, ◌∙◌, ap, subst, inl, inr, length, arith, true}
+use Rattle.std.proofs.Common.{◌≡◌, ℕ, ◌+◌, ◌++◌, ◌∷◌, ◌<◌, [], List, IsTrue, Result, Ok, Err, refl, sym, ◌∙◌, ap, subst, inl, inr, true}
 use Rattle.std.specs.Prelude.{is_ok}
 use Rattle.mdcc_admission.specs.Boots.{BootsWithinCells}
 use Rattle.mdcc_centre.proofs.Kept.{rest_read}
@@ -11,14 +11,13 @@ use Rattle.mdcc_centre.specs.declared.fault.StartFault.{StartFault}
 use Rattle.mdcc_centre.specs.declared.starting.Running.{Running}
 use Rattle.mdcc_disks.specs.Disks.{Disk, Only}
 use Rattle.mdcc_endings.specs.Logs.{IsTold, LogRefusal, node_at, node_from, node_of}
-use Rattle.mdcc_log.proofs.Groups.{one_frame, one_record}
+use Rattle.mdcc_log.proofs.Groups.{full_one}
 use Rattle.mdcc_log_file.specs.Area.{payloads}
 use Rattle.mdcc_log.specs.AtRest.{IsAtRest}
 use Rattle.mdcc_log_file.specs.Both.{RoseAtOne}
 use Rattle.mdcc_log.specs.Crash.{CurrentIsRead, ReadsAsEither}
 use Rattle.mdcc_log.specs.Frames.{OpenAreas}
 use Rattle.mdcc_log.specs.Groups.{AreFull}
-use Rattle.mdcc_log.specs.Room.{IsFull}
 use Rattle.mdcc_log_file.specs.declared.fault.LogFault.{LogFault}
 use Rattle.mdcc_messages.specs.Spelling.{encodings_of, fact_bytes}
 use Rattle.mdcc_messages.specs.declared.facts.Fact.{Fact}
@@ -43,14 +42,6 @@ use Rattle.mdcc_site.specs.Room.{HasNoRoom}
 use Rattle.mdcc_site.specs.declared.fault.ServeFault.{ServeFault}
 use Rattle.mdcc_spelling.specs.Laws.{FactsHaveOneSpelling, FactsReadAreWellFormed}
 use Rattle.mdcc_steps.specs.NodeInvariant.{BootGivesNode}
-
--- ---- room for one payload, and for it as a group
-
-full_alone : (log : OpenAreas) (p : List ℕ) → IsFull log (length p) → AreFull log (p ∷ [])
-full_alone log p (inl past) = inl (let e = one_frame p in omega (e, past, arith))
-full_alone log p (inr (inl past)) = inr (inl (let e = one_frame p in omega (e, past, arith)))
-full_alone log p (inr (inr (due, inl last))) = inr (inr (due, inl last))
-full_alone log p (inr (inr (due, inr past))) = inr (inr (due, inr (let e = one_record p in omega (e, past, arith))))
 
 -- ---- the node of a log
 
@@ -80,7 +71,7 @@ module _ {D : Type 0} (disk : D → ℕ → Disk) (may_leave : D → ℕ → Lis
 
   module _ (current_is_read : CurrentIsRead) (one : FactsHaveOneSpelling) (well : FactsReadAreWellFormed) (within : BootsWithinCells) (gives : BootGivesNode)
       (is_cluster : IsCluster cluster) (among : is_centre cluster centre ≡ true) (passes : DiskPasses disk may_leave old new) (others : KeepsOthers disk may_leave centre old new)
-      (alike : (disk old (centre + 16)).told ≡ (disk old centre).told)
+      (alike : (disk old (centre + 16)).told ≡ (disk old centre).told) (tears : ℕ → Type 0)
     where
       abbrev Starts : Running CentreStore → Type 0
       Starts running = StartsFrom disk may_leave centre every old new are_stored spare_of needed_in (cells_of cluster) cluster running
@@ -90,7 +81,7 @@ module _ {D : Type 0} (disk : D → ℕ → Disk) (may_leave : D → ℕ → Lis
       told_before told = let here = subst IsTrue (passes.told centre) told in record { first = here; second = subst IsTrue (sym alike) here }
 
       pub runs : (running : Running CentreStore) → Starts running → running.log.centre ≡ centre → running.log.every ≡ every → running.log.tail < every
-          → IsRunning disk may_leave every cluster centre running old new
+          → IsRunning disk may_leave every tears cluster centre running old new
       runs running starts of often few = record {
         facts = given.facts;
         itself = given.itself;
@@ -110,6 +101,7 @@ module _ {D : Type 0} (disk : D → ℕ → Disk) (may_leave : D → ℕ → Lis
         others = others;
         stays = record {
           read = λ all told is. inr (starts.boot, starts.boots.0, node_is all told is, now_read all told is);
+          crash = λ all first second never told only only_other is left left_second. inr (starts.boot, starts.boots.0, node_is all told is, crash_read all told is first second left left_second);
           unread = λ offset told none. (let bad : Err offset ≡ Ok starts.all = sym none ∙ starts.read told.first told.second in absurd (cc));
         };
         over = λ before before_of is. given.over before.facts is.allowed (let told = told_at before before_of is in same_lists (payloads (disk old centre).bytes (disk old (centre + 16)).bytes) starts.all (encodings_of before.facts) (starts.read told.first told.second) (read_at before before_of is));
@@ -134,6 +126,13 @@ module _ {D : Type 0} (disk : D → ℕ → Disk) (may_leave : D → ℕ → Lis
           now_read all told is =
               subst (λ (ps : List (List ℕ)). payloads (disk new centre).bytes (disk new (centre + 16)).bytes ≡ Ok (ps ++ fact_bytes starts.boot ∷ [])) (same all told is)
               (rest_read disk may_leave new (starts.all ++ fact_bytes starts.boot ∷ []) running.log centre of (starts.open_log told.first told.second))
+
+          crash_read : (all : List (List ℕ)) → IsTold disk old centre → Read all → (first second : List ℕ) → may_leave new centre first → may_leave new (centre + 16) second
+              → payloads first second ≡ Ok (all ++ fact_bytes starts.boot ∷ [])
+          crash_read all told is first second left left_second =
+              let rest = starts.open_log told.first told.second in
+              subst (λ (ps : List (List ℕ)). payloads first second ≡ Ok (ps ++ fact_bytes starts.boot ∷ [])) (same all told is)
+              (rested disk may_leave current_is_read new running.log centre (starts.all ++ fact_bytes starts.boot ∷ []) rest.range of rest first second left left_second)
 
   -- a node boots from its log
   pub runs_boot : (running : Running CentreStore) → StartsFrom disk may_leave centre every old new are_stored spare_of needed_in (cells_of cluster) cluster running → BootsAt disk cluster old centre
@@ -166,9 +165,16 @@ module _ {D : Type 0} (disk : D → ℕ → Disk) (may_leave : D → ℕ → Lis
     where
       -- a log that is read as it was read before
       same_stays : ((all : List (List ℕ)) → IsTold disk old centre → Read all → payloads (disk new centre).bytes (disk new (centre + 16)).bytes ≡ Ok all)
+          → ((all : List (List ℕ)) (current other : List ℕ) → (tears 1 → ⊥) → IsTrue (disk old centre).told → IsTrue (disk old (centre + 16)).told
+          → Only (disk old centre).bytes (may_leave old centre) → Only (disk old (centre + 16)).bytes (may_leave old (centre + 16)) → Read all
+          → may_leave new centre current → may_leave new (centre + 16) other → payloads current other ≡ Ok all)
           → ((n : ℕ) → IsTold disk old centre → payloads (disk old centre).bytes (disk old (centre + 16)).bytes ≡ Err n → AreasStand centre disk old new)
-          → LogStays disk cluster old new centre
-      same_stays read unread = record { read = λ all told is. inl (read all told is); unread = unread }
+          → LogStays disk may_leave tears cluster old new centre
+      same_stays read crash unread = record {
+        read = λ all told is. inl (read all told is);
+        crash = λ all first second never told only only_other is left left_second. inl (crash all first second never told.first told.second only only_other is left left_second);
+        unread = unread;
+      }
 
       -- so is one that was at rest before
       was_read : (all : List (List ℕ)) → IsAsBefore all centre every disk may_leave old new → payloads (disk new centre).bytes (disk new (centre + 16)).bytes ≡ Ok all
@@ -193,7 +199,7 @@ module _ {D : Type 0} (disk : D → ℕ → Disk) (may_leave : D → ℕ → Lis
         cause = tt;
         passes = e.passes;
         others = e.others;
-        stays = same_stays (λ all told is. was_read all (e.kept all told.first told.second is)) (λ n told is. absurd (e.unread n told.first told.second is));
+        stays = same_stays (λ all told is. was_read all (e.kept all told.first told.second is)) e.reads (λ n told is. absurd (e.unread n told.first told.second is));
         over = λ log of is.
             let told = told_at log of is in
             let its = read_at log of is in
@@ -217,7 +223,7 @@ module _ {D : Type 0} (disk : D → ℕ → Disk) (may_leave : D → ℕ → Lis
         cause = tt;
         passes = e.passes;
         others = e.others;
-        stays = same_stays (λ all told is. was_read all (e.kept all told.first told.second is)) (λ n told is. absurd (e.unread n told.first told.second is));
+        stays = same_stays (λ all told is. was_read all (e.kept all told.first told.second is)) e.reads (λ n told is. absurd (e.unread n told.first told.second is));
         over = λ log of is.
             let told = told_at log of is in
             let its = read_at log of is in
@@ -241,7 +247,7 @@ module _ {D : Type 0} (disk : D → ℕ → Disk) (may_leave : D → ℕ → Lis
                 of = lacks.opened.of ∙ sym of;
                 often = lacks.opened.every_is;
                 at_rest = subst (λ (ps : List (List ℕ)). IsAtRest disk may_leave new lacks.opened.log ps) same (lacks.opened.open_log told.first told.second);
-                full = subst (λ (fact : Fact). AreFull lacks.opened.log (fact_bytes fact ∷ [])) boot (full_alone lacks.opened.log (fact_bytes lacks.booted.1) lacks.full);
+                full = subst (λ (fact : Fact). AreFull lacks.opened.log (fact_bytes fact ∷ [])) boot (full_one lacks.opened.log (fact_bytes lacks.booted.1) lacks.full);
               }
 
       -- ---- whatever the fault is
@@ -270,6 +276,7 @@ module _ {D : Type 0} (disk : D → ℕ → Disk) (may_leave : D → ℕ → Lis
         others = e.others;
         stays = record {
           read = λ all told is. (let bad : Err n ≡ Ok all = sym (e.no_log n refl told.first told.second) ∙ is in absurd (cc));
+          crash = λ all first second never told only only_other is left left_second. (let bad : Err n ≡ Ok all = sym (e.no_log n refl told.first told.second) ∙ is in absurd (cc));
           unread = λ m told is. (e.unread m told.first told.second is).1;
         };
         over = λ log of is. absurd (e.refused log.facts is.allowed (log_read log of is));
@@ -285,7 +292,7 @@ module _ {D : Type 0} (disk : D → ℕ → Disk) (may_leave : D → ℕ → Lis
         cause = tt;
         passes = e.passes;
         others = e.others;
-        stays = same_stays (λ all told is. e.kept all told.first told.second is) (λ n told is. e.unread n told.first told.second is);
+        stays = same_stays (λ all told is. e.kept all told.first told.second is) e.reads (λ n told is. e.unread n told.first told.second is);
         over = λ log of is. record { comes = tt; boots = tt; full = tt; kept = λ durable safe. just log of is durable safe };
       }
         where

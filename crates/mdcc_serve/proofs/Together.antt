@@ -253,8 +253,8 @@ module _ {D : Type 0} (disk : D → ℕ → Disk) (may_leave : D → ℕ → Lis
               absurd (omega (e, f, g, long, fewer, arith))
           by_rest (l ∷ rest) is = (l, rest, is)
 
-      pub one_started : (next : TheSite) → HasStarted disk may_leave every cluster a next mid new → HaveStarted disk may_leave every cluster first (held ++ next ∷ []) old new
-      one_started next has = record {
+      pub one_started : (tears : ℕ → Type 0) (next : TheSite) → HasStarted disk may_leave every tears cluster a next mid new → HaveStarted disk may_leave every cluster first (held ++ next ∷ []) old new
+      one_started tears next has = record {
         logs = started.logs ++ has.log ∷ [];
         follow = follow_more first started.logs has.log started.follow (has.of ∙ many);
         as_many = (let e = length-append started.logs (has.log ∷ []) in let f = length-append held (next ∷ []) in let g = started.as_many in omega (e, f, g, arith));

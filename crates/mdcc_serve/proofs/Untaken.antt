@@ -25,25 +25,26 @@ line_refuses held faults acts fault old new stop refused = elim stop.comes [
   | inr failed ↦ subst IsLogRefused failed.0 refused
 ]
 
+-- ---- before
+
+pub start_refuses : {D L O : Type 0} (disk : D → ℕ → Disk) (may_leave : D → ℕ → List ℕ → Type 0) (tears : ℕ → Type 0) (cluster : Cluster) (calls : L → Option (List LinkCall)) (lost : L → ℕ) (first end : ℕ) (old new : D) (link : L) (out : O) (fault : ServeFault)
+    → UnlessDisk fault (AllStay disk may_leave tears cluster old new first end) → IsLogRefused fault → HasRefused disk may_leave tears calls lost cluster first end old new link link out out
+start_refuses disk may_leave tears cluster calls lost first end old new link out (ServeFault.Disk a) stay refused = absurd refused
+start_refuses disk may_leave tears cluster calls lost first end old new link out (ServeFault.Log a fault) stay refused = record { link = refl; sends = refl; output = refl; logs = stay }
+start_refuses disk may_leave tears cluster calls lost first end old new link out (ServeFault.Boot a why) stay refused = record { link = refl; sends = refl; output = refl; logs = stay }
+start_refuses disk may_leave tears cluster calls lost first end old new link out ServeFault.Link stay refused = absurd refused
+start_refuses disk may_leave tears cluster calls lost first end old new link out ServeFault.Output stay refused = absurd refused
+start_refuses disk may_leave tears cluster calls lost first end old new link out ServeFault.Serial stay refused = absurd refused
+start_refuses disk may_leave tears cluster calls lost first end old new link out ServeFault.Memory stay refused = absurd refused
+
+-- ---- after
+
+-- from what gives no node none boots
+pub not_ok : (r : Result (List Fact) LogRefusal) (why : LogRefusal) → r ≡ Err why → IsTrue (is_ok r) → ⊥
+not_ok (Ok facts) why is ok = absurd (cc)
+not_ok (Err other) why is ok = absurd (cc)
+
 module _ {D : Type 0} (disk : D → ℕ → Disk) (cluster : Cluster) where
-  -- ---- before
-
-  pub start_refuses : {L O : Type 0} (calls : L → Option (List LinkCall)) (lost : L → ℕ) (first end : ℕ) (old new : D) (link : L) (out : O) (fault : ServeFault)
-      → UnlessDisk fault (AllStay disk cluster old new first end) → IsLogRefused fault → HasRefused disk calls lost cluster first end old new link link out out
-  start_refuses calls lost first end old new link out (ServeFault.Disk a) stay refused = absurd refused
-  start_refuses calls lost first end old new link out (ServeFault.Log a fault) stay refused = record { link = refl; sends = refl; output = refl; logs = stay }
-  start_refuses calls lost first end old new link out (ServeFault.Boot a why) stay refused = record { link = refl; sends = refl; output = refl; logs = stay }
-  start_refuses calls lost first end old new link out ServeFault.Link stay refused = absurd refused
-  start_refuses calls lost first end old new link out ServeFault.Output stay refused = absurd refused
-  start_refuses calls lost first end old new link out ServeFault.Serial stay refused = absurd refused
-  start_refuses calls lost first end old new link out ServeFault.Memory stay refused = absurd refused
-
-  -- ---- after
-
-  not_ok : (r : Result (List Fact) LogRefusal) (why : LogRefusal) → r ≡ Err why → IsTrue (is_ok r) → ⊥
-  not_ok (Ok facts) why is ok = absurd (cc)
-  not_ok (Err other) why is ok = absurd (cc)
-
   says_no : (disks : D) (first end at : ℕ) (fault : ServeFault) → IsTrue (is_ok (node_at disk cluster disks at)) → SaysAt disk cluster disks at fault → (AreTold disk cluster disks first end → IsTold disk disks at) → IsLogRefused fault → AreTold disk cluster disks first end → ⊥
   says_no disks first end at (ServeFault.Disk a) ok says known refused told = refused
   says_no disks first end at (ServeFault.Log a (LogFault.NotALog offset)) ok says known refused told = not_ok (node_at disk cluster disks at) (LogRefusal.NotALog offset) (says (known told)).1 ok
@@ -80,10 +81,10 @@ module _ {D : Type 0} (disk : D → ℕ → Disk) (cluster : Cluster) where
 
 -- ---- of one centre
 
-pub one_refuses : {D L O T : Type 0} (disk : D → ℕ → Disk) (calls : L → Option (List LinkCall)) (lost : L → ℕ) (cluster : Cluster) (first centre : ℕ) (old new : D) (link link_new : L) (out out_new : O) (result : Result T ServeFault) → first ≡ centre
-    → IfErr result (λ fault. IsLogRefused fault → AreTold disk cluster old first (first + 1) → HasRefused disk calls lost cluster first (first + 1) old new link link_new out out_new)
-    → IfErr result (λ fault. IsLogRefused fault → IsTold disk old centre → HasRefused disk calls lost cluster centre (centre + 1) old new link link_new out out_new)
-one_refuses disk calls lost cluster first centre old new link link_new out out_new (Ok done) is h = tt
-one_refuses disk calls lost cluster first centre old new link link_new out out_new (Err fault) is h = λ refused told.
-    subst (λ (n : ℕ). HasRefused disk calls lost cluster n (n + 1) old new link link_new out out_new) is
+pub one_refuses : {D L O T : Type 0} (disk : D → ℕ → Disk) (may_leave : D → ℕ → List ℕ → Type 0) (tears : ℕ → Type 0) (calls : L → Option (List LinkCall)) (lost : L → ℕ) (cluster : Cluster) (first centre : ℕ) (old new : D) (link link_new : L) (out out_new : O) (result : Result T ServeFault) → first ≡ centre
+    → IfErr result (λ fault. IsLogRefused fault → AreTold disk cluster old first (first + 1) → HasRefused disk may_leave tears calls lost cluster first (first + 1) old new link link_new out out_new)
+    → IfErr result (λ fault. IsLogRefused fault → IsTold disk old centre → HasRefused disk may_leave tears calls lost cluster centre (centre + 1) old new link link_new out out_new)
+one_refuses disk may_leave tears calls lost cluster first centre old new link link_new out out_new (Ok done) is h = tt
+one_refuses disk may_leave tears calls lost cluster first centre old new link link_new out out_new (Err fault) is h = λ refused told.
+    subst (λ (n : ℕ). HasRefused disk may_leave tears calls lost cluster n (n + 1) old new link link_new out out_new) is
     (h refused (λ a low high. (let same : centre ≡ a = omega (is, low, high, arith) in subst (IsTold disk old) same told)))

@@ -81,7 +81,7 @@ pub record IsFresh (held : TheSite) : Type 0 where
 module _ {D : Type 0} (disk : D → ℕ → Disk) (may_leave : D → ℕ → List ℕ → Type 0) (every : ℕ) where
   -- The node has the facts of its log and the next boot, and so has the open log, all of them durable. After so many frames a checkpoint
   -- of it is due.
-  pub record IsRunning (cluster : Cluster) (centre : ℕ) (running : Running CentreStore) (old new : D) : Type 0 where
+  pub record IsRunning (tears : ℕ → Type 0) (cluster : Cluster) (centre : ℕ) (running : Running CentreStore) (old new : D) : Type 0 where
     pub facts : List Fact
     pub itself : IsNodeOf running.node cluster centre (next_boot facts ∷ facts) initial_volatile
     pub kept : IsNode cluster centre (next_boot facts ∷ facts) initial_volatile
@@ -89,11 +89,11 @@ module _ {D : Type 0} (disk : D → ℕ → Disk) (may_leave : D → ℕ → Lis
     pub holds : HoldsLog disk may_leave every new running.log centre (next_boot facts ∷ facts)
     pub passes : DiskPasses disk may_leave old new
     pub others : KeepsOthers disk may_leave centre old new
-    pub stays : LogStays disk cluster old new centre
+    pub stays : LogStays disk may_leave tears cluster old new centre
     pub over : (before : Log) → before.centre ≡ centre → IsLogOf disk cluster old before → facts ≡ before.facts
 
   -- The centre runs, with the facts of its log and the new boot.
-  pub record HasStarted (cluster : Cluster) (centre : ℕ) (held : TheSite) (old new : D) : Type 0 where
+  pub record HasStarted (tears : ℕ → Type 0) (cluster : Cluster) (centre : ℕ) (held : TheSite) (old new : D) : Type 0 where
     pub log : Log
     pub of : log.centre ≡ centre
     pub itself : IsSite cluster held (site_of log)
@@ -101,7 +101,7 @@ module _ {D : Type 0} (disk : D → ℕ → Disk) (may_leave : D → ℕ → Lis
     pub fresh : IsFresh held
     pub passes : DiskPasses disk may_leave old new
     pub others : KeepsOthers disk may_leave centre old new
-    pub stays : LogStays disk cluster old new centre
+    pub stays : LogStays disk may_leave tears cluster old new centre
     pub over : (before : Log) → before.centre ≡ centre → IsLogOf disk cluster old before → log ≡ before
 
   module _ (tears : ℕ → Type 0) where
@@ -118,7 +118,7 @@ module _ {D : Type 0} (disk : D → ℕ → Disk) (may_leave : D → ℕ → Lis
       pub cause : CausedOn disk may_leave fault old new
       pub passes : DiskPasses disk may_leave old new
       pub others : KeepsOthers disk may_leave centre old new
-      pub stays : UnlessDisk fault (LogStays disk cluster old new centre)
+      pub stays : UnlessDisk fault (LogStays disk may_leave tears cluster old new centre)
       pub over : (log : Log) → log.centre ≡ centre → IsLogOf disk cluster old log → StopsOver cluster log fault old new
 
 -- ---- several

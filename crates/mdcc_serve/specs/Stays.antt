@@ -2,7 +2,7 @@
 use Rattle.std.specs.Prelude.{Err, List, Ok, Option, Result, [], ⊤, ℕ, ◌+◌, ◌++◌, ◌<◌, ◌∷◌, ◌≡◌, ◌≤◌, ◌⊎◌}
 use Rattle.mdcc_centre.specs.Nodes.{booted}
 use Rattle.mdcc_centre.specs.Starting.{AreasStand}
-use Rattle.mdcc_disks.specs.Disks.{Disk}
+use Rattle.mdcc_disks.specs.Disks.{Disk, Only}
 use Rattle.mdcc_endings.specs.Logs.{IsTold}
 use Rattle.mdcc_link.specs.Link.{LinkCall}
 use Rattle.mdcc_log_file.specs.Area.{payloads}
@@ -32,12 +32,16 @@ abbrev pub MayHaveBoot : Cluster → List (List ℕ) → Result (List (List ℕ)
 MayHaveBoot cluster all read =
     (read ≡ Ok all) ⊎ ((boot : Fact) × (facts : List Fact) × (booted cluster all ≡ Ok (boot ∷ facts)) × (read ≡ Ok (all ++ fact_bytes boot ∷ [])))
 
-module _ {D : Type 0} (disk : D → ℕ → Disk) (cluster : Cluster) (old new : D) where
+module _ {D : Type 0} (disk : D → ℕ → Disk) (may_leave : D → ℕ → List ℕ → Type 0) (tears : ℕ → Type 0) (cluster : Cluster) (old new : D) where
   -- The log of a centre has the payloads that it had, with or without its own new boot; areas that are no log have the bytes that they
-  -- had.
+  -- had. Of a log that was durable so much is read of whatever a crash leaves, on disks that tear no byte to 1.
   pub record LogStays (a : ℕ) : Type 0 where
     pub read : (all : List (List ℕ)) → IsTold disk old a → payloads (disk old a).bytes (disk old (a + 16)).bytes ≡ Ok all
         → MayHaveBoot cluster all (payloads (disk new a).bytes (disk new (a + 16)).bytes)
+    pub crash : (all : List (List ℕ)) (first second : List ℕ) → (tears 1 → ⊥) → IsTold disk old a
+        → Only (disk old a).bytes (may_leave old a) → Only (disk old (a + 16)).bytes (may_leave old (a + 16))
+        → payloads (disk old a).bytes (disk old (a + 16)).bytes ≡ Ok all → may_leave new a first → may_leave new (a + 16) second
+        → MayHaveBoot cluster all (payloads first second)
     pub unread : (offset : ℕ) → IsTold disk old a → payloads (disk old a).bytes (disk old (a + 16)).bytes ≡ Err offset → AreasStand a disk old new
 
   -- so do those of several centres, up to this number
@@ -45,11 +49,11 @@ module _ {D : Type 0} (disk : D → ℕ → Disk) (cluster : Cluster) (old new :
   AllStay first end = (a : ℕ) → first ≤ a → a < end → LogStays a
 
 -- No call of the link was made, nothing was printed, and the logs of all centres that were to be served stand.
-pub record HasRefused {D L O : Type 0} (disk : D → ℕ → Disk) (calls : L → Option (List LinkCall)) (lost : L → ℕ) (cluster : Cluster) (first end : ℕ) (disks_old disks_new : D) (link_old link_new : L) (out_old out_new : O) : Type 0 where
+pub record HasRefused {D L O : Type 0} (disk : D → ℕ → Disk) (may_leave : D → ℕ → List ℕ → Type 0) (tears : ℕ → Type 0) (calls : L → Option (List LinkCall)) (lost : L → ℕ) (cluster : Cluster) (first end : ℕ) (disks_old disks_new : D) (link_old link_new : L) (out_old out_new : O) : Type 0 where
   pub link : calls link_new ≡ calls link_old
   pub sends : lost link_new ≡ lost link_old
   pub output : out_new ≡ out_old
-  pub logs : AllStay disk cluster disks_old disks_new first end
+  pub logs : AllStay disk may_leave tears cluster disks_old disks_new first end
 
 -- the log of a centre, with facts that it may have added, is said to be full only where it has no room for its boot
 abbrev pub OnFullBoot : {D : Type 0} → (D → ℕ → Disk) → (D → ℕ → List ℕ → Type 0) → ℕ → Cluster → D → D → ServeFault → Type 0
@@ -59,9 +63,9 @@ OnFullBoot disk may_leave every cluster old new fault = ⊤
 
 -- No call of the link was made and nothing was printed. The logs of all centres that were to be served stand, unless a call of a disk
 -- failed.
-pub record NeverServed {D L O : Type 0} (disk : D → ℕ → Disk) (may_leave : D → ℕ → List ℕ → Type 0) (every : ℕ) (calls : L → Option (List LinkCall)) (lost : L → ℕ) (cluster : Cluster) (first end : ℕ) (disks_old disks_new : D) (link_old link_new : L) (out_old out_new : O) (fault : ServeFault) : Type 0 where
+pub record NeverServed {D L O : Type 0} (disk : D → ℕ → Disk) (may_leave : D → ℕ → List ℕ → Type 0) (tears : ℕ → Type 0) (every : ℕ) (calls : L → Option (List LinkCall)) (lost : L → ℕ) (cluster : Cluster) (first end : ℕ) (disks_old disks_new : D) (link_old link_new : L) (out_old out_new : O) (fault : ServeFault) : Type 0 where
   pub link : calls link_new ≡ calls link_old
   pub sends : lost link_new ≡ lost link_old
   pub output : out_new ≡ out_old
-  pub logs : UnlessDisk fault (AllStay disk cluster disks_old disks_new first end)
+  pub logs : UnlessDisk fault (AllStay disk may_leave tears cluster disks_old disks_new first end)
   pub full : OnFullBoot disk may_leave every cluster disks_old disks_new fault

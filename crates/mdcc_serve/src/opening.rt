@@ -83,9 +83,9 @@ pub(crate) fn open<D: Disks, L: Link, O: Sink>(
         (places disks.old [] link.old out.old) (places disks.new [] link.new out.new)) }
     ensures logs { SaysOfLogs D.disk config.now.cluster disks.old first (last + 1) result }
     ensures refused { IfErr result (λ fault. IsLogRefused fault
-        → HasRefused D.disk L.calls L.lost config.now.cluster first (last + 1) disks.old disks.new link.old link.new out.old out.new) }
+        → HasRefused D.disk D.may_leave D.tears L.calls L.lost config.now.cluster first (last + 1) disks.old disks.new link.old link.new out.old out.new) }
     ensures unserved { LacksNode D.disk config.now.cluster disks.old first (last + 1)
-        → IsErrAnd result (NeverServed D.disk D.may_leave config.now.checkpoint L.calls L.lost config.now.cluster first (last + 1) disks.old disks.new link.old link.new out.old out.new) }
+        → IsErrAnd result (NeverServed D.disk D.may_leave D.tears config.now.checkpoint L.calls L.lost config.now.cluster first (last + 1) disks.old disks.new link.old link.new out.old out.new) }
 {
     let sites = start_all(alloc, config, first, last, disks)?;
     bind_all(config, sites.as_slice(), link)?;

@@ -136,9 +136,9 @@ fn serve<D: Disks, L: Link, O: Sink>(
     ensures logs { SaysOfLogs D.disk config.now.cluster disks.old first (last + 1) result }
     ensures others { KeepsUnserved D.disk D.may_leave first (last + 1) disks.old disks.new }
     ensures refused { IfErr result (λ fault. IsLogRefused fault → AreTold D.disk config.now.cluster disks.old first (last + 1)
-        → HasRefused D.disk L.calls L.lost config.now.cluster first (last + 1) disks.old disks.new link.old link.new out.old out.new) }
+        → HasRefused D.disk D.may_leave D.tears L.calls L.lost config.now.cluster first (last + 1) disks.old disks.new link.old link.new out.old out.new) }
     ensures unserved { LacksNode D.disk config.now.cluster disks.old first (last + 1)
-        → IsErrAnd result (NeverServed D.disk D.may_leave config.now.checkpoint L.calls L.lost config.now.cluster first (last + 1) disks.old disks.new link.old link.new out.old out.new) }
+        → IsErrAnd result (NeverServed D.disk D.may_leave D.tears config.now.checkpoint L.calls L.lost config.now.cluster first (last + 1) disks.old disks.new link.old link.new out.old out.new) }
 {
     let mut sites = open(alloc, config, first, last, disks, link, out)?;
     serve_sites(alloc, config, &mut sites, turns, disks, link, out)
@@ -168,13 +168,14 @@ pub fn serve_node<D: Disks, L: Link, O: Sink>(
     ensures logs { SaysOfLogs D.disk config.now.cluster disks.old centre (centre + 1) result }
     ensures may { IfErr result MayServe }
 
-    // A log that is refused stands as it was, perhaps with its own new boot, and nothing was bound, sent or printed.
+    // A log that is refused stands as it was, perhaps with its own new boot, after a crash too where it was durable, and nothing was
+    // bound, sent or printed.
     ensures refused { IfErr result (λ fault. IsLogRefused fault → IsTold D.disk disks.old centre
-        → HasRefused D.disk L.calls L.lost config.now.cluster centre (centre + 1) disks.old disks.new link.old link.new out.old out.new) }
+        → HasRefused D.disk D.may_leave D.tears L.calls L.lost config.now.cluster centre (centre + 1) disks.old disks.new link.old link.new out.old out.new) }
 
     // Where no node boots from its log nothing is bound, sent or printed, however it ends, and the log stands but where a disk fails.
     ensures unserved { LacksNode D.disk config.now.cluster disks.old centre (centre + 1)
-        → IsErrAnd result (NeverServed D.disk D.may_leave config.now.checkpoint L.calls L.lost config.now.cluster centre (centre + 1) disks.old disks.new link.old link.new out.old out.new) }
+        → IsErrAnd result (NeverServed D.disk D.may_leave D.tears config.now.checkpoint L.calls L.lost config.now.cluster centre (centre + 1) disks.old disks.new link.old link.new out.old out.new) }
 
     // Whatever the logs are, and however it ends, the disks of other centres are as they were.
     ensures others { KeepsOthers D.disk D.may_leave centre disks.old disks.new }
@@ -211,13 +212,14 @@ pub fn serve_cluster<D: Disks, L: Link, O: Sink>(
     ensures logs { SaysOfLogs D.disk config.now.cluster disks.old 1 (config.now.cluster.quorums.centres + 1) result }
     ensures may { IfErr result MayServe }
 
-    // Where a log is refused all logs stand as they were, each perhaps with its own new boot, and nothing was bound, sent or printed.
+    // Where a log is refused all logs stand as they were, each perhaps with its own new boot, after a crash too where they were durable,
+    // and nothing was bound, sent or printed.
     ensures refused { IfErr result (λ fault. IsLogRefused fault → AreTold D.disk config.now.cluster disks.old 1 (config.now.cluster.quorums.centres + 1)
-        → HasRefused D.disk L.calls L.lost config.now.cluster 1 (config.now.cluster.quorums.centres + 1) disks.old disks.new link.old link.new out.old out.new) }
+        → HasRefused D.disk D.may_leave D.tears L.calls L.lost config.now.cluster 1 (config.now.cluster.quorums.centres + 1) disks.old disks.new link.old link.new out.old out.new) }
 
     // Where no node boots from a log nothing is bound, sent or printed, however it ends, and all logs stand but where a disk fails.
     ensures unserved { LacksNode D.disk config.now.cluster disks.old 1 (config.now.cluster.quorums.centres + 1)
-        → IsErrAnd result (NeverServed D.disk D.may_leave config.now.checkpoint L.calls L.lost config.now.cluster 1 (config.now.cluster.quorums.centres + 1) disks.old disks.new link.old link.new out.old out.new) }
+        → IsErrAnd result (NeverServed D.disk D.may_leave D.tears config.now.checkpoint L.calls L.lost config.now.cluster 1 (config.now.cluster.quorums.centres + 1) disks.old disks.new link.old link.new out.old out.new) }
 
     // Whatever the logs are, and however it ends, the disks of other centres are as they were.
     ensures others { KeepsUnserved D.disk D.may_leave 1 (config.now.cluster.quorums.centres + 1) disks.old disks.new }

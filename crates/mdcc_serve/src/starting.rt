@@ -53,7 +53,7 @@ fn start_over_log<D: Disks>(
     requires config { IsConfig config.now }
     requires among { centre ≤ config.now.cluster.quorums.centres }
     requires alike { (D.disk disks.old (centre + 16)).told ≡ (D.disk disks.old centre).told }
-    ensures runs { IfOk result (λ running. IsRunning D.disk D.may_leave config.now.checkpoint config.now.cluster centre running disks.old disks.new) }
+    ensures runs { IfOk result (λ running. IsRunning D.disk D.may_leave config.now.checkpoint D.tears config.now.cluster centre running disks.old disks.new) }
     ensures fails { IfErr result (λ fault. FailsToStart D.disk D.may_leave config.now.checkpoint D.tears config.now.cluster centre fault disks.old disks.new) }
     ensures node { OnOk result (BootsAt D.disk config.now.cluster disks.old centre) }
     ensures says { IfErr result (SaysAt D.disk config.now.cluster disks.old centre) }
@@ -81,7 +81,7 @@ fn start<D: Disks>(
     requires config { IsConfig config.now }
     requires among { centre ≤ config.now.cluster.quorums.centres }
     requires alike { (D.disk disks.old (centre + 16)).told ≡ (D.disk disks.old centre).told }
-    ensures starts { IfOk result (λ held. HasStarted D.disk D.may_leave config.now.checkpoint config.now.cluster centre held disks.old disks.new) }
+    ensures starts { IfOk result (λ held. HasStarted D.disk D.may_leave config.now.checkpoint D.tears config.now.cluster centre held disks.old disks.new) }
     ensures fails { IfErr result (λ fault. FailsToStart D.disk D.may_leave config.now.checkpoint D.tears config.now.cluster centre fault disks.old disks.new) }
     ensures node { OnOk result (BootsAt D.disk config.now.cluster disks.old centre) }
     ensures says { IfErr result (SaysAt D.disk config.now.cluster disks.old centre) }
@@ -120,9 +120,9 @@ fn start_next<D: Disks>(
     requires some { 1 ≤ number }
     requires among { number ≤ config.now.cluster.quorums.centres }
     requires alike { (D.disk disks.old (number + 16)).told ≡ (D.disk disks.old number).told }
-    ensures starts { OnOk result ((held : ASite) × (sites.new.items ≡ sites.old.items ++ held ∷ []) × HasStarted D.disk D.may_leave config.now.checkpoint config.now.cluster number held disks.old disks.new) }
+    ensures starts { OnOk result ((held : ASite) × (sites.new.items ≡ sites.old.items ++ held ∷ []) × HasStarted D.disk D.may_leave config.now.checkpoint D.tears config.now.cluster number held disks.old disks.new) }
     ensures fails { IfErr result (λ fault. FailsToStart D.disk D.may_leave config.now.checkpoint D.tears config.now.cluster number fault disks.old disks.new
-        ⊎ ((fault ≡ AServeFault.Memory) × (held : ASite) × HasStarted D.disk D.may_leave config.now.checkpoint config.now.cluster number held disks.old disks.new)) }
+        ⊎ ((fault ≡ AServeFault.Memory) × (held : ASite) × HasStarted D.disk D.may_leave config.now.checkpoint D.tears config.now.cluster number held disks.old disks.new)) }
     ensures node { OnOk result (BootsAt D.disk config.now.cluster disks.old number) }
     ensures says { IfErr result (SaysAt D.disk config.now.cluster disks.old number) }
 {
@@ -150,7 +150,7 @@ pub(crate) fn start_all<D: Disks>(
     ensures fails { IfErr result (λ fault. FailToStart D.disk D.may_leave config.now.checkpoint D.tears config.now.cluster first (last + 1 - first) fault disks.old disks.new) }
     ensures nodes { OnOk result (AllBoot D.disk config.now.cluster disks.old first (last + 1)) }
     ensures ends { IfErr result (StartEnds D.disk config.now.cluster disks.old first (last + 1)) }
-    ensures stay { IfErr result (λ fault. UnlessDisk fault (AllStay D.disk config.now.cluster disks.old disks.new first (last + 1))) }
+    ensures stay { IfErr result (λ fault. UnlessDisk fault (AllStay D.disk D.may_leave D.tears config.now.cluster disks.old disks.new first (last + 1))) }
     ensures full { IfErr result (OnFullBoot D.disk D.may_leave config.now.checkpoint config.now.cluster disks.old disks.new) }
 {
     let mut sites = Vec::new(alloc);

@@ -9,16 +9,13 @@ use Rattle.mdcc_endings.specs.declared.fault.Failure.{Failure}
 use Rattle.mdcc_messages.specs.declared.facts.Fact.{Fact}
 use Rattle.mdcc_option.specs.declared.cluster.Cluster.{Cluster}
 use Rattle.mdcc_rules.specs.declared.node.BootFault.{BootFault}
+use Rattle.mdcc_serve.proofs.Untaken.{not_ok}
 use Rattle.mdcc_serve.specs.Refusals.{AllBoot, EndsStarted, SaysAt, SaysOfLogs, StartEnds}
 use Rattle.mdcc_serve.specs.declared.served.Served.{Served}
 use Rattle.mdcc_servers.specs.Commands.{as_served, failure_of}
 use Rattle.mdcc_site.specs.declared.fault.ServeFault.{ServeFault}
 
 -- ---- one node
-
-no_node : (r : Result (List Fact) LogRefusal) (why : LogRefusal) → r ≡ Err why → IsTrue (is_ok r) → ⊥
-no_node (Ok facts) why is ok = absurd (cc)
-no_node (Err other) why is ok = absurd (cc)
 
 same_why : (r : Result (List Fact) LogRefusal) (why other : LogRefusal) → r ≡ Err why → r ≡ Err other → other ≡ why
 same_why r why other is also = let both : Err other ≡ Err why = sym also ∙ is in cc
@@ -73,7 +70,7 @@ module _ {D : Type 0} (disk : D → ℕ → Disk) (cluster : Cluster) (disks : D
 
   module _ (a : ℕ) (why : LogRefusal) (refused : IsFirstRefused node first last a why) where
     none_boots : AllBoot disk cluster disks first (last + 1) → ⊥
-    none_boots all = let high = refused.to in no_node (node a) why refused.is (all a refused.from (omega (high, arith)) (told a refused.from refused.to))
+    none_boots all = let high = refused.to in not_ok (node a) why refused.is (all a refused.from (omega (high, arith)) (told a refused.from refused.to))
 
     -- a start before it
     before_it : (b : ℕ) (fault : ServeFault) → first ≤ b → b < a → SaysAt disk cluster disks b fault → ComesBefore first a (failure_of fault)
@@ -87,13 +84,13 @@ module _ {D : Type 0} (disk : D → ℕ → Disk) (cluster : Cluster) (disks : D
 
         by : (fault : ServeFault) → SaysAt disk cluster disks b fault → ComesBefore first a (failure_of fault)
         by (ServeFault.Disk c) says = (omega (low, says, arith), omega (high, says, arith))
-        by (ServeFault.Log c (LogFault.NotALog n)) says = absurd (no_node (node b) _ (says known).1 ok)
+        by (ServeFault.Log c (LogFault.NotALog n)) says = absurd (not_ok (node b) _ (says known).1 ok)
         by (ServeFault.Log c LogFault.LogFull) says = (let same = says.0 in (omega (low, same, arith), omega (high, same, arith)))
         by (ServeFault.Log c LogFault.DiskFault) says = absurd says
         by (ServeFault.Log c LogFault.Memory) says = absurd says
-        by (ServeFault.Boot c BootFault.Epochs) says = absurd (no_node (node b) _ (says.1 known) ok)
-        by (ServeFault.Boot c (BootFault.NotARun n)) says = absurd (no_node (node b) _ (says.1 known) ok)
-        by (ServeFault.Boot c (BootFault.Room needed cells)) says = absurd (no_node (node b) _ (says.1 known) ok)
+        by (ServeFault.Boot c BootFault.Epochs) says = absurd (not_ok (node b) _ (says.1 known) ok)
+        by (ServeFault.Boot c (BootFault.NotARun n)) says = absurd (not_ok (node b) _ (says.1 known) ok)
+        by (ServeFault.Boot c (BootFault.Room needed cells)) says = absurd (not_ok (node b) _ (says.1 known) ok)
         by (ServeFault.Boot c BootFault.Memory) says = absurd says
         by ServeFault.Link says = absurd says
         by ServeFault.Output says = absurd says
@@ -117,7 +114,7 @@ module _ {D : Type 0} (disk : D → ℕ → Disk) (cluster : Cluster) (disks : D
     own : (fault : ServeFault) → SaysAt disk cluster disks a fault → Refuses fault
     own (ServeFault.Disk c) says = inr (let low = refused.from in (omega (low, says, arith), omega (says, arith)))
     own (ServeFault.Log c (LogFault.NotALog n)) says = let is = says (told a refused.from refused.to) in refuses_none c n is.0 is.1
-    own (ServeFault.Log c LogFault.LogFull) says = absurd (no_node (node a) why refused.is (says.1 (told a refused.from refused.to)))
+    own (ServeFault.Log c LogFault.LogFull) says = absurd (not_ok (node a) why refused.is (says.1 (told a refused.from refused.to)))
     own (ServeFault.Log c LogFault.DiskFault) says = absurd says
     own (ServeFault.Log c LogFault.Memory) says = absurd says
     own (ServeFault.Boot c BootFault.Epochs) says = refuses_node c BootFault.Epochs says.0 (says.1 (told a refused.from refused.to))
@@ -132,7 +129,7 @@ module _ {D : Type 0} (disk : D → ℕ → Disk) (cluster : Cluster) (disks : D
     at_place : (fault : ServeFault) (start : StartEnds disk cluster disks first (last + 1) fault) → (start.at ≡ a) ⊎ ((start.at < a) ⊎ (a < start.at)) → Refuses fault
     at_place fault start (inl same) = own fault (subst (λ (n : ℕ). SaysAt disk cluster disks n fault) same start.says)
     at_place fault start (inr (inl before)) = inr (before_it start.at fault start.from before start.says)
-    at_place fault start (inr (inr after)) = absurd (no_node (node a) why refused.is (start.before a refused.from after (told a refused.from refused.to)))
+    at_place fault start (inr (inr after)) = absurd (not_ok (node a) why refused.is (start.before a refused.from after (told a refused.from refused.to)))
 
     refuses : (fault : ServeFault) → StartEnds disk cluster disks first (last + 1) fault ⊎ EndsStarted disk cluster disks first (last + 1) fault → Refuses fault
     refuses fault (inl start) = at_place fault start (cases_order start.at a)

@@ -33,30 +33,30 @@ weaker : (Told Other X Y : Type 0) (result : Result Served ServeFault) → (Othe
 weaker Told Other X Y (Ok done) known so h = tt
 weaker Told Other X Y (Err fault) known so h = λ refused told. so (h refused (known told))
 
-module _ {D L O : Type 0} (disk : D → ℕ → Disk) (calls : L → Option (List LinkCall)) (lost : L → ℕ) (cluster : Cluster) (first end : ℕ) (disks_old disks_new : D) (link mid new : L) (out out_new : O)
+module _ {D L O : Type 0} (disk : D → ℕ → Disk) (may_leave : D → ℕ → List ℕ → Type 0) (tears : ℕ → Type 0) (calls : L → Option (List LinkCall)) (lost : L → ℕ) (cluster : Cluster) (first end : ℕ) (disks_old disks_new : D) (link mid new : L) (out out_new : O)
     (called : calls mid ≡ calls link) (sent : lost mid ≡ lost link)
   where
     -- what it says of a link that was told how long to wait it says of the link before
-    since_then : HasRefused disk calls lost cluster first end disks_old disks_new mid new out out_new → HasRefused disk calls lost cluster first end disks_old disks_new link new out out_new
+    since_then : HasRefused disk may_leave tears calls lost cluster first end disks_old disks_new mid new out out_new → HasRefused disk may_leave tears calls lost cluster first end disks_old disks_new link new out out_new
     since_then has = record { link = has.link ∙ called; sends = has.sends ∙ sent; output = has.output; logs = has.logs }
 
     pub refused_served : (Told Other : Type 0) (result : Result Served ServeFault) (served : Result Served Failure) → served ≡ as_served result → (Other → Told)
-        → IfErr result (λ fault. IsLogRefused fault → Told → HasRefused disk calls lost cluster first end disks_old disks_new mid new out out_new)
-        → IfErr served (λ failure. IsRefusal failure → Other → HasRefused disk calls lost cluster first end disks_old disks_new link new out out_new)
+        → IfErr result (λ fault. IsLogRefused fault → Told → HasRefused disk may_leave tears calls lost cluster first end disks_old disks_new mid new out out_new)
+        → IfErr served (λ failure. IsRefusal failure → Other → HasRefused disk may_leave tears calls lost cluster first end disks_old disks_new link new out out_new)
     refused_served Told Other result served is known h =
-        subst (λ (r : Result Served Failure). IfErr r (λ failure. IsRefusal failure → Other → HasRefused disk calls lost cluster first end disks_old disks_new link new out out_new)) (sym is)
-        (by_result Other (HasRefused disk calls lost cluster first end disks_old disks_new link new out out_new) result
-        (weaker Told Other (HasRefused disk calls lost cluster first end disks_old disks_new mid new out out_new) (HasRefused disk calls lost cluster first end disks_old disks_new link new out out_new) result known since_then h))
+        subst (λ (r : Result Served Failure). IfErr r (λ failure. IsRefusal failure → Other → HasRefused disk may_leave tears calls lost cluster first end disks_old disks_new link new out out_new)) (sym is)
+        (by_result Other (HasRefused disk may_leave tears calls lost cluster first end disks_old disks_new link new out out_new) result
+        (weaker Told Other (HasRefused disk may_leave tears calls lost cluster first end disks_old disks_new mid new out out_new) (HasRefused disk may_leave tears calls lost cluster first end disks_old disks_new link new out out_new) result known since_then h))
 
     -- so it does where nothing was served
-    never_since : (may_leave : D → ℕ → List ℕ → Type 0) (every : ℕ) (fault : ServeFault) → NeverServed disk may_leave every calls lost cluster first end disks_old disks_new mid new out out_new fault
-        → NeverServed disk may_leave every calls lost cluster first end disks_old disks_new link new out out_new fault
-    never_since may_leave every fault never = record { link = never.link ∙ called; sends = never.sends ∙ sent; output = never.output; logs = never.logs; full = never.full }
+    never_since : (every : ℕ) (fault : ServeFault) → NeverServed disk may_leave tears every calls lost cluster first end disks_old disks_new mid new out out_new fault
+        → NeverServed disk may_leave tears every calls lost cluster first end disks_old disks_new link new out out_new fault
+    never_since every fault never = record { link = never.link ∙ called; sends = never.sends ∙ sent; output = never.output; logs = never.logs; full = never.full }
 
-    pub unserved_since : (may_leave : D → ℕ → List ℕ → Type 0) (every : ℕ) (result : Result Served ServeFault) → IsErrAnd result (NeverServed disk may_leave every calls lost cluster first end disks_old disks_new mid new out out_new)
-        → IsErrAnd result (NeverServed disk may_leave every calls lost cluster first end disks_old disks_new link new out out_new)
-    unserved_since may_leave every (Ok done) never = never
-    unserved_since may_leave every (Err fault) never = never_since may_leave every fault never
+    pub unserved_since : (every : ℕ) (result : Result Served ServeFault) → IsErrAnd result (NeverServed disk may_leave tears every calls lost cluster first end disks_old disks_new mid new out out_new)
+        → IsErrAnd result (NeverServed disk may_leave tears every calls lost cluster first end disks_old disks_new link new out out_new)
+    unserved_since every (Ok done) never = never
+    unserved_since every (Err fault) never = never_since every fault never
 
 -- all centres of a cluster are those from 1 on
 pub all_told : {D : Type 0} (disk : D → ℕ → Disk) (cluster : Cluster) (disks : D) → AllAreTold disk cluster disks → AreTold disk cluster disks 1 (cluster.quorums.centres + 1)

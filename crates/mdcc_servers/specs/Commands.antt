@@ -72,10 +72,10 @@ module _ {D L O : Type 0} (disk : D → ℕ → Disk) (may_leave : D → ℕ →
     pub logs : IsTold disk disks_old centre → SaysLogs (node_at disk config.cluster disks_old) centre centre served
     -- Then nothing was bound, sent or printed, and the log stands as it was, perhaps with its own new boot.
     pub refused : IfErr served (λ failure. IsRefusal failure → IsTold disk disks_old centre
-        → HasRefused disk calls lost config.cluster centre (centre + 1) disks_old disks_new link_old link_new out_old out_new)
+        → HasRefused disk may_leave tears calls lost config.cluster centre (centre + 1) disks_old disks_new link_old link_new out_old out_new)
     -- Where no node boots from its log so it is however it ended, but that a log stands only where no call of a disk failed.
     pub unserved : LacksNode disk config.cluster disks_old centre (centre + 1)
-        → IsErrAnd result (NeverServed disk may_leave config.checkpoint calls lost config.cluster centre (centre + 1) disks_old disks_new link_old link_new out_old out_new)
+        → IsErrAnd result (NeverServed disk may_leave tears config.checkpoint calls lost config.cluster centre (centre + 1) disks_old disks_new link_old link_new out_old out_new)
 
   -- it ended before anything was done
   abbrev pub IsEarlyAt : Failure → Result Served Failure → Type 0
@@ -115,11 +115,11 @@ module _ {D L O : Type 0} (disk : D → ℕ → Disk) (may_leave : D → ℕ →
     pub logs : AllAreTold disk config.cluster disks_old → SaysLogs (node_at disk config.cluster disks_old) 1 config.cluster.quorums.centres served
     -- Then nothing was bound, sent or printed, and all logs stand as they were, each perhaps with its own new boot.
     pub refused : IfErr served (λ failure. IsRefusal failure → AllAreTold disk config.cluster disks_old
-        → HasRefused disk calls lost config.cluster 1 (config.cluster.quorums.centres + 1) disks_old disks_new link_old link_new out_old out_new)
+        → HasRefused disk may_leave tears calls lost config.cluster 1 (config.cluster.quorums.centres + 1) disks_old disks_new link_old link_new out_old out_new)
     -- Where no node boots from one of the logs so it is however it ended, but that the logs stand only where no call of a disk failed; a
     -- log is said to be full then only where it has no room for its boot.
     pub unserved : LacksNode disk config.cluster disks_old 1 (config.cluster.quorums.centres + 1)
-        → IsErrAnd result (NeverServed disk may_leave config.checkpoint calls lost config.cluster 1 (config.cluster.quorums.centres + 1) disks_old disks_new link_old link_new out_old out_new)
+        → IsErrAnd result (NeverServed disk may_leave tears config.checkpoint calls lost config.cluster 1 (config.cluster.quorums.centres + 1) disks_old disks_new link_old link_new out_old out_new)
     -- and whatever the logs are, disks of no centre of the configuration are as they were
     pub others : KeepsUnserved disk may_leave 1 (config.cluster.quorums.centres + 1) disks_old disks_new
 

@@ -87,7 +87,7 @@ returns-clause-logs g c = c.in_ok-sites.ensures.nodes
 pub returns-in_err-sites-clause-refused : goal.returns-in_err-sites-clause-refused
 returns-in_err-sites-clause-refused g c =
     let e : c.from_residual.result ≡ Err c.in_err-sites.field-0.0 = search rules in
-    rw e (start_refuses g.D.Disks.disk c.args.config.now.cluster g.L.Link.calls g.L.Link.lost c.args.first (c.args.last + 1) c.args.disks.now c.start_all.new.disks c.args.link.now c.args.out.now c.in_err-sites.field-0.0 c.in_err-sites.ensures.stay)
+    rw e (start_refuses g.D.Disks.disk g.D.Disks.may_leave g.D.Disks.tears c.args.config.now.cluster g.L.Link.calls g.L.Link.lost c.args.first (c.args.last + 1) c.args.disks.now c.start_all.new.disks c.args.link.now c.args.out.now c.in_err-sites.field-0.0 c.in_err-sites.ensures.stay)
 
 pub returns-in_err-bind_all-clause-refused : goal.returns-in_err-bind_all-clause-refused
 returns-in_err-bind_all-clause-refused g c =

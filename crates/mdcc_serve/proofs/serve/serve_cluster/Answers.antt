@@ -55,7 +55,7 @@ returns-clause-others g c = subst (λ (n : ℕ). KeepsUnserved g.D.Disks.disk g.
 pub returns-clause-unserved : goal.returns-clause-unserved
 returns-clause-unserved g c =
     subst (λ (n : ℕ). LacksNode g.D.Disks.disk c.args.config.now.cluster c.args.disks.now 1 (n + 1)
-    → IsErrAnd c.serve.result (NeverServed g.D.Disks.disk g.D.Disks.may_leave c.args.config.now.checkpoint g.L.Link.calls g.L.Link.lost c.args.config.now.cluster 1 (n + 1) c.args.disks.now c.serve.new.disks c.args.link.now c.serve.new.link c.args.out.now c.serve.new.out))
+    → IsErrAnd c.serve.result (NeverServed g.D.Disks.disk g.D.Disks.may_leave g.D.Disks.tears c.args.config.now.checkpoint g.L.Link.calls g.L.Link.lost c.args.config.now.cluster 1 (n + 1) c.args.disks.now c.serve.new.disks c.args.link.now c.serve.new.link c.args.out.now c.serve.new.out))
     c.centres-last.ensures.value c.serve.ensures.unserved
 
 -- ---- where a log is refused
@@ -63,5 +63,5 @@ returns-clause-unserved g c =
 pub returns-clause-refused : goal.returns-clause-refused
 returns-clause-refused g c =
     subst (λ (n : ℕ). IfErr c.serve.result (λ fault. IsLogRefused fault → AreTold g.D.Disks.disk c.args.config.now.cluster c.args.disks.now 1 (n + 1)
-    → HasRefused g.D.Disks.disk g.L.Link.calls g.L.Link.lost c.args.config.now.cluster 1 (n + 1) c.args.disks.now c.serve.new.disks c.args.link.now c.serve.new.link c.args.out.now c.serve.new.out))
+    → HasRefused g.D.Disks.disk g.D.Disks.may_leave g.D.Disks.tears g.L.Link.calls g.L.Link.lost c.args.config.now.cluster 1 (n + 1) c.args.disks.now c.serve.new.disks c.args.link.now c.serve.new.link c.args.out.now c.serve.new.out))
     c.centres-last.ensures.value c.serve.ensures.refused

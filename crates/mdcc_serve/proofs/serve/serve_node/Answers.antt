@@ -49,7 +49,7 @@ returns-clause-may g c =
 
 pub returns-clause-refused : goal.returns-clause-refused
 returns-clause-refused g c =
-    one_refuses g.D.Disks.disk g.L.Link.calls g.L.Link.lost c.args.config.now.cluster c.number-first.result c.args.centre c.args.disks.now c.serve.new.disks c.args.link.now c.serve.new.link c.args.out.now c.serve.new.out c.serve.result c.number-first.ensures.value c.serve.ensures.refused
+    one_refuses g.D.Disks.disk g.D.Disks.may_leave g.D.Disks.tears g.L.Link.calls g.L.Link.lost c.args.config.now.cluster c.number-first.result c.args.centre c.args.disks.now c.serve.new.disks c.args.link.now c.serve.new.link c.args.out.now c.serve.new.out c.serve.result c.number-first.ensures.value c.serve.ensures.refused
 
 -- ---- the disks of other centres
 
@@ -63,5 +63,5 @@ returns-clause-others g c =
 pub returns-clause-unserved : goal.returns-clause-unserved
 returns-clause-unserved g c =
     subst (λ (n : ℕ). LacksNode g.D.Disks.disk c.args.config.now.cluster c.args.disks.now n (n + 1)
-    → IsErrAnd c.serve.result (NeverServed g.D.Disks.disk g.D.Disks.may_leave c.args.config.now.checkpoint g.L.Link.calls g.L.Link.lost c.args.config.now.cluster n (n + 1) c.args.disks.now c.serve.new.disks c.args.link.now c.serve.new.link c.args.out.now c.serve.new.out))
+    → IsErrAnd c.serve.result (NeverServed g.D.Disks.disk g.D.Disks.may_leave g.D.Disks.tears c.args.config.now.checkpoint g.L.Link.calls g.L.Link.lost c.args.config.now.cluster n (n + 1) c.args.disks.now c.serve.new.disks c.args.link.now c.serve.new.link c.args.out.now c.serve.new.out))
     c.number-first.ensures.value c.serve.ensures.unserved

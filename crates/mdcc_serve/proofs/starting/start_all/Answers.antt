@@ -32,11 +32,11 @@ loop-number-preserved g c =
     record {
       started = subst (λ (held : List Site). HaveStarted g.D.Disks.disk g.D.Disks.may_leave c.args.config.now.checkpoint c.args.config.now.cluster c.args.first held c.args.disks.now c.start_next.new.disks) (sym {A = List Site} next.1)
           (one_started g.D.Disks.disk g.D.Disks.may_leave c.args.config.now.checkpoint c.args.config.now.cluster c.args.first c.loop-number.number c.loop-number.sites.items c.args.disks.now c.loop-number.disks c.start_next.new.disks
-          c.requires.some (sym many) (omega (nine, among, arith)) before.started next.0 next.2);
+          c.requires.some (sym many) (omega (nine, among, arith)) before.started g.D.Disks.tears next.0 next.2);
       nodes = one_boots g.D.Disks.disk c.args.config.now.cluster c.args.disks.now c.args.first c.loop-number.number before.nodes
           (boots_still g.D.Disks.disk c.args.config.now.cluster c.args.disks.now g.D.Disks.may_leave c.loop-number.disks c.loop-number.number
           (before.started.later c.loop-number.number (omega (many, arith)) (omega (nine, among, arith))) c.in_ok-start_next.ensures.node);
-      stay = one_stays g.D.Disks.disk g.D.Disks.may_leave c.args.config.now.cluster c.args.disks.now c.loop-number.disks c.start_next.new.disks c.args.first c.loop-number.number (omega (nine, among, arith)) before.stay
+      stay = one_stays g.D.Disks.disk g.D.Disks.may_leave g.D.Disks.tears c.args.config.now.cluster c.args.disks.now c.loop-number.disks c.start_next.new.disks c.args.first c.loop-number.number (omega (nine, among, arith)) before.stay
           (before.started.later c.loop-number.number (omega (many, arith)) (omega (nine, among, arith))) next.2.others next.2.stays;
       many = rw next.1 (omega (more, many, arith));
     }
@@ -57,7 +57,7 @@ returns-in_err-start_next-clause-fails g c =
       | inr lacks ↦
           let more = length-append c.loop-number.sites.items (lacks.1 ∷ []) in
           let started = one_started g.D.Disks.disk g.D.Disks.may_leave c.args.config.now.checkpoint c.args.config.now.cluster c.args.first c.loop-number.number c.loop-number.sites.items c.args.disks.now c.loop-number.disks c.start_next.new.disks
-          c.requires.some (sym many) (omega (nine, among, arith)) before.started lacks.1 lacks.2 in
+          c.requires.some (sym many) (omega (nine, among, arith)) before.started g.D.Disks.tears lacks.1 lacks.2 in
           subst (λ (f : ServeFault). FailToStart g.D.Disks.disk g.D.Disks.may_leave c.args.config.now.checkpoint g.D.Disks.tears c.args.config.now.cluster c.args.first count f c.args.disks.now c.start_next.new.disks) (sym lacks.0)
           (keep_stops g.D.Disks.disk g.D.Disks.may_leave c.args.config.now.checkpoint c.args.config.now.cluster c.args.first count (c.loop-number.sites.items ++ lacks.1 ∷ []) c.args.disks.now c.start_next.new.disks g.D.Disks.tears started
           (omega (more, many, arith)) (omega (nine, among, arith)))
@@ -97,11 +97,11 @@ returns-in_err-start_next-clause-stay g c =
     let among : c.args.last ≤ c.args.config.now.cluster.quorums.centres = c.requires.among in
     let fault = c.in_err-start_next.field-0.0 in
     let e : c.from_residual.result ≡ Err fault = search rules in
-    let rest = rest_stay g.D.Disks.disk g.D.Disks.may_leave c.args.config.now.cluster c.args.disks.now c.loop-number.disks c.start_next.new.disks c.args.first c.loop-number.number (c.args.last + 1) (omega (nine, among, arith)) (omega (nine, among, arith))
+    let rest = rest_stay g.D.Disks.disk g.D.Disks.may_leave g.D.Disks.tears c.args.config.now.cluster c.args.disks.now c.loop-number.disks c.start_next.new.disks c.args.first c.loop-number.number (c.args.last + 1) (omega (nine, among, arith)) (omega (nine, among, arith))
     before.stay (λ a low high. before.started.later a (omega (many, low, arith)) high) in
     rw e (elim c.in_err-start_next.ensures.fails [
       | inl fails ↦ unless_so fault fails.stays (rest fails.others)
-      | inr lacks ↦ subst (λ (f : ServeFault). UnlessDisk f (AllStay g.D.Disks.disk c.args.config.now.cluster c.args.disks.now c.start_next.new.disks c.args.first (c.args.last + 1))) (sym lacks.0) (rest lacks.2.others lacks.2.stays)
+      | inr lacks ↦ subst (λ (f : ServeFault). UnlessDisk f (AllStay g.D.Disks.disk g.D.Disks.may_leave g.D.Disks.tears c.args.config.now.cluster c.args.disks.now c.start_next.new.disks c.args.first (c.args.last + 1))) (sym lacks.0) (rest lacks.2.others lacks.2.stays)
     ])
 
 pub returns-in_err-start_next-clause-full : goal.returns-in_err-start_next-clause-full

@@ -11,7 +11,7 @@ returns-in_err-push-clause-fails g c =
     rw (p.1, p.2) (inr (
       refl,
       c.in_ok-site.site,
-      subst (λ (n : ℕ). HasStarted g.D.Disks.disk g.D.Disks.may_leave c.args.config.now.checkpoint c.args.config.now.cluster n c.in_ok-site.site c.args.disks.now c.start.new.disks) same c.in_ok-site.ensures.starts,
+      subst (λ (n : ℕ). HasStarted g.D.Disks.disk g.D.Disks.may_leave c.args.config.now.checkpoint g.D.Disks.tears c.args.config.now.cluster n c.in_ok-site.site c.args.disks.now c.start.new.disks) same c.in_ok-site.ensures.starts,
     ))
 
 pub returns-clause-starts : goal.returns-clause-starts
@@ -19,7 +19,7 @@ returns-clause-starts g c =
     let same : c.unwrap-centre.result ≡ c.args.number = search rules in (
       c.in_ok-site.site,
       c.in_ok-push.ensures.items,
-      subst (λ (n : ℕ). HasStarted g.D.Disks.disk g.D.Disks.may_leave c.args.config.now.checkpoint c.args.config.now.cluster n c.in_ok-site.site c.args.disks.now c.start.new.disks) same c.in_ok-site.ensures.starts,
+      subst (λ (n : ℕ). HasStarted g.D.Disks.disk g.D.Disks.may_leave c.args.config.now.checkpoint g.D.Disks.tears c.args.config.now.cluster n c.in_ok-site.site c.args.disks.now c.start.new.disks) same c.in_ok-site.ensures.starts,
     )
 
 -- ---- what is said of its log

@@ -31,12 +31,12 @@ returns-in-Ok-clause-runs g c =
     let cluster = c.copy-cluster.result in
     let holds = holds_copy c.in_ok-store.store cluster c.args.config.now.cluster c.copy-cluster.ensures c.in_ok-store.ensures.empty c.in_ok-store.ensures.spare in
     let log = c.in-Ok.ensures.log in
-    subst (λ (of : Cluster). IsRunning g.D.Disks.disk g.D.Disks.may_leave c.args.config.now.checkpoint of c.args.centre c.in-Ok.running c.args.disks.now c.start.new.disks) c.copy-cluster.ensures
+    subst (λ (of : Cluster). IsRunning g.D.Disks.disk g.D.Disks.may_leave c.args.config.now.checkpoint g.D.Disks.tears of c.args.centre c.in-Ok.running c.args.disks.now c.start.new.disks) c.copy-cluster.ensures
     (runs g.D.Disks.disk g.D.Disks.may_leave c.args.config.now.checkpoint cluster c.args.centre c.args.disks.now c.start.new.disks c.current_is_read.ensures c.facts_have_one_spelling.ensures c.facts_read_are_well_formed.ensures c.boots_within_cells.ensures c.boots_give_nodes.ensures.node
     (cluster_copy cluster c.args.config.now c.copy-cluster.ensures c.requires.config) (among_copy cluster c.args.config.now.cluster c.args.centre c.copy-cluster.ensures (omega arith) c.requires.among)
     (but_passes g.D.Disks.disk g.D.Disks.may_leave g.D.Disks.moment g.D.Disks.left_since c.args.disks.now c.start.new.disks c.args.centre (c.args.centre + 16) c.start.ensures.others)
     (but_others g.D.Disks.disk g.D.Disks.may_leave g.D.Disks.moment g.D.Disks.left_since c.args.disks.now c.start.new.disks c.args.centre c.start.ensures.others)
-    c.requires.alike c.in-Ok.running (c.in-Ok.ensures.over_any (cells_of cluster) holds) log.0 log.1.0 log.1.1)
+    c.requires.alike g.D.Disks.tears c.in-Ok.running (c.in-Ok.ensures.over_any (cells_of cluster) holds) log.0 log.1.0 log.1.1)
 
 pub returns-in-Ok-clause-node : goal.returns-in-Ok-clause-node
 returns-in-Ok-clause-node g c =

@@ -16,10 +16,10 @@ returns-clause-serves g c = record {
   serves = λ logs numbers are. serves_there g.D.Disks.disk g.D.Disks.may_leave g.D.Disks.tears g.L.Link.calls g.L.Link.lost g.O.Sink.held c.args.link.now c.set_wait.new.self c.set_wait.ensures.calls c.set_wait.ensures.sends
       c.args.config.now logs c.args.turns c.serve_cluster.result c.args.disks.now c.serve_cluster.new.disks c.serve_cluster.new.link c.args.out.now c.serve_cluster.new.out (c.serve_cluster.ensures.serves logs numbers are);
   logs = λ told. says_served g.D.Disks.disk c.args.config.now.cluster c.args.disks.now 1 c.args.config.now.cluster.quorums.centres told c.serve_cluster.result c.as_served.result c.as_served.ensures c.serve_cluster.ensures.logs;
-  refused = refused_served g.D.Disks.disk g.L.Link.calls g.L.Link.lost c.args.config.now.cluster 1 (c.args.config.now.cluster.quorums.centres + 1) c.args.disks.now c.serve_cluster.new.disks c.args.link.now c.set_wait.new.self c.serve_cluster.new.link c.args.out.now c.serve_cluster.new.out
+  refused = refused_served g.D.Disks.disk g.D.Disks.may_leave g.D.Disks.tears g.L.Link.calls g.L.Link.lost c.args.config.now.cluster 1 (c.args.config.now.cluster.quorums.centres + 1) c.args.disks.now c.serve_cluster.new.disks c.args.link.now c.set_wait.new.self c.serve_cluster.new.link c.args.out.now c.serve_cluster.new.out
       c.set_wait.ensures.calls c.set_wait.ensures.sends _ _ c.serve_cluster.result c.as_served.result c.as_served.ensures (all_told g.D.Disks.disk c.args.config.now.cluster c.args.disks.now) c.serve_cluster.ensures.refused;
-  unserved = λ lacks. unserved_since g.D.Disks.disk g.L.Link.calls g.L.Link.lost c.args.config.now.cluster 1 (c.args.config.now.cluster.quorums.centres + 1) c.args.disks.now c.serve_cluster.new.disks c.args.link.now c.set_wait.new.self c.serve_cluster.new.link c.args.out.now c.serve_cluster.new.out
-      c.set_wait.ensures.calls c.set_wait.ensures.sends g.D.Disks.may_leave c.args.config.now.checkpoint c.serve_cluster.result (c.serve_cluster.ensures.unserved lacks);
+  unserved = λ lacks. unserved_since g.D.Disks.disk g.D.Disks.may_leave g.D.Disks.tears g.L.Link.calls g.L.Link.lost c.args.config.now.cluster 1 (c.args.config.now.cluster.quorums.centres + 1) c.args.disks.now c.serve_cluster.new.disks c.args.link.now c.set_wait.new.self c.serve_cluster.new.link c.args.out.now c.serve_cluster.new.out
+      c.set_wait.ensures.calls c.set_wait.ensures.sends c.args.config.now.checkpoint c.serve_cluster.result (c.serve_cluster.ensures.unserved lacks);
   others = c.serve_cluster.ensures.others;
 }
 

@@ -25,10 +25,10 @@ returns-clause-serves g c =
           c.args.config.now (log ∷ []) c.args.turns c.serve_node.result c.args.disks.now c.serve_node.new.disks c.serve_node.new.link c.args.out.now c.serve_node.new.out (c.serve_node.ensures.serves log of is);
       logs = λ told. says_served g.D.Disks.disk c.args.config.now.cluster c.args.disks.now c.in-Some.centre c.in-Some.centre (told_alone g.D.Disks.disk c.args.disks.now c.in-Some.centre told)
           c.serve_node.result c.as_served.result c.as_served.ensures c.serve_node.ensures.logs;
-      refused = refused_served g.D.Disks.disk g.L.Link.calls g.L.Link.lost c.args.config.now.cluster c.in-Some.centre (c.in-Some.centre + 1) c.args.disks.now c.serve_node.new.disks c.args.link.now c.set_wait.new.self c.serve_node.new.link c.args.out.now c.serve_node.new.out
+      refused = refused_served g.D.Disks.disk g.D.Disks.may_leave g.D.Disks.tears g.L.Link.calls g.L.Link.lost c.args.config.now.cluster c.in-Some.centre (c.in-Some.centre + 1) c.args.disks.now c.serve_node.new.disks c.args.link.now c.set_wait.new.self c.serve_node.new.link c.args.out.now c.serve_node.new.out
           c.set_wait.ensures.calls c.set_wait.ensures.sends _ _ c.serve_node.result c.as_served.result c.as_served.ensures (λ told. told) c.serve_node.ensures.refused;
-      unserved = λ lacks. unserved_since g.D.Disks.disk g.L.Link.calls g.L.Link.lost c.args.config.now.cluster c.in-Some.centre (c.in-Some.centre + 1) c.args.disks.now c.serve_node.new.disks c.args.link.now c.set_wait.new.self c.serve_node.new.link c.args.out.now c.serve_node.new.out
-          c.set_wait.ensures.calls c.set_wait.ensures.sends g.D.Disks.may_leave c.args.config.now.checkpoint c.serve_node.result (c.serve_node.ensures.unserved lacks);
+      unserved = λ lacks. unserved_since g.D.Disks.disk g.D.Disks.may_leave g.D.Disks.tears g.L.Link.calls g.L.Link.lost c.args.config.now.cluster c.in-Some.centre (c.in-Some.centre + 1) c.args.disks.now c.serve_node.new.disks c.args.link.now c.set_wait.new.self c.serve_node.new.link c.args.out.now c.serve_node.new.out
+          c.set_wait.ensures.calls c.set_wait.ensures.sends c.args.config.now.checkpoint c.serve_node.result (c.serve_node.ensures.unserved lacks);
     }))
 
 pub returns-clause-early : goal.returns-clause-early
