@@ -47,8 +47,8 @@ fn vote(alloc: Global, number: u8, key: u8) -> Result<Vec<u8>, Fail> {
     Ok(datagram(alloc, 1, 1, number, &vote)?)
 }
 
-// The log of a boot and of so many of these votes.
-fn votes_log(alloc: Global, votes: usize) -> Result<Vec<u8>, Fail> {
+/// The log of a boot and of so many of these votes.
+pub(crate) fn votes_log(alloc: Global, votes: usize) -> Result<Vec<u8>, Fail> {
     let mut log = Vec::new(alloc);
     log.extend_from_slice(&BOOTED[..18])?;
     let mut number = 0u8;

@@ -1,9 +1,12 @@
 //! What a node holds back, and what it lets out though more waits.
 use crate::commands::THREE;
-use crate::groups::{check_votes, proposal};
+use crate::datagrams::{NOTHING_HELD, READS, answer, datagram, message, was_sent};
+use crate::groups::{check_votes, proposal, votes_log};
+use crate::logs::BOOTED;
 use crate::pausing::PausingLink;
 use crate::program::{NO_FAULTS, Ran, run_on};
 use crate::runs::new_disks;
+use mdcc_disks::MemoryDisks;
 use mdcc_link::MemoryLink;
 use std::alloc::Global;
 use std::process::Abort;
@@ -102,4 +105,80 @@ fn only_what_came_and_made_a_step_holds_back(rt: HostRuntime) -> Result<(), Fail
     holds_back(&rt, alloc, first)?;
     noise_holds_nothing_back(&rt, alloc, first)?;
     silence_lets_all_out(&rt, alloc, first)
+}
+
+// The node of centre 1 in two turns, for which a proposal waits at its own endpoint and so many reads of `b` at its client's, over a link where
+// this call fails.
+fn run_read(alloc: Global, reads: u8, call: u32) -> Result<(Ran, MemoryDisks, MemoryLink), Fail> {
+    let mut disks = new_disks(alloc, &[])?;
+    let mut link = MemoryLink::new(alloc, &[call])?;
+    link.put(1, &proposal(alloc, 1, 97)?)?;
+    let read = message(alloc, &READS, &[1, 98])?;
+    for number in 0..reads {
+        let serial = number.saturating_add(1);
+        link.put(17, &datagram(alloc, 17, 7, serial, &read)?)?;
+    }
+    let words = ["node", "1", "2"];
+    let ran = run_on(alloc, &words, THREE, &NO_FAULTS, &mut disks, &mut link)?;
+    Ok((ran, disks, link))
+}
+
+// Just these answers follow so many datagrams of a vote: nothing is held of `b`.
+fn check_answers(
+    rt: &impl Abort,
+    alloc: Global,
+    link: &MemoryLink,
+    votes: usize,
+    reads: u8,
+) -> Result<(), Fail> {
+    let mut nothing = NOTHING_HELD;
+    nothing[2] = 98;
+    let mut index = votes;
+    for read in 0..reads {
+        assert!(rt;
+            was_sent(
+                link,
+                index,
+                9033,
+                &answer(alloc, read.saturating_add(2), &nothing)?
+            )
+        );
+        index = index.saturating_add(1);
+    }
+    assert!(rt; link.sent(index).is_none());
+    Ok(())
+}
+
+const READ: &str = "boot 1 epoch 1\ndone turns 2 steps 3 dropped 0 lost 0\n";
+
+const LOST: &str = "boot 1 epoch 1\ndone turns 2 steps 3 dropped 0 lost 1\n";
+
+// Two binds and two receives come first, so the fifth call of the link is the next receive where the vote and the first answer wait for the
+// second read. Where that receive fails they are lost: nothing was sent, and the log has no vote.
+fn a_read_that_waits_holds_back(rt: &impl Abort, alloc: Global) -> Result<(), Fail> {
+    let (ran, disks, link) = run_read(alloc, 2, 5)?;
+    assert!(rt; ran.is(BOOT, "mdcc: link failed\n", 8));
+    assert!(rt; disks.bytes(1) == BOOTED.as_slice() && link.sent(0).is_none());
+    let (ran, disks, link) = run_read(alloc, 2, 60)?;
+    assert!(rt; ran.is(READ, "", 0));
+    assert!(rt; disks.bytes(1) == votes_log(alloc, 1)?.as_slice());
+    check_answers(rt, alloc, &link, 1, 2)
+}
+
+// With one read nothing waits after the first turn, and the fifth call is the send of the vote. The second turn is a tick.
+fn one_read_holds_nothing_back(rt: &impl Abort, alloc: Global) -> Result<(), Fail> {
+    let (ran, disks, link) = run_read(alloc, 1, 5)?;
+    assert!(rt; ran.is(LOST, "", 0));
+    assert!(rt; disks.bytes(1) == votes_log(alloc, 1)?.as_slice());
+    check_answers(rt, alloc, &link, 0, 1)?;
+    let (ran, _disks, link) = run_read(alloc, 1, 7)?;
+    assert!(rt; ran.is(BOOT, "mdcc: link failed\n", 8));
+    check_answers(rt, alloc, &link, 1, 1)
+}
+
+#[test]
+fn what_waits_at_either_endpoint_holds_back(rt: HostRuntime) -> Result<(), Fail> {
+    let alloc = rt.alloc();
+    a_read_that_waits_holds_back(&rt, alloc)?;
+    one_read_holds_nothing_back(&rt, alloc)
 }
