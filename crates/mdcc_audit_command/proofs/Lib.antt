@@ -1,3 +1,4 @@
+pub mod Completed
 pub mod Ended
 pub mod Facts
 pub mod Places

@@ -1,24 +1,34 @@
 -- What the command that audits logs does.
+use Rattle.std.specs.Io.KnownBytes.{Appends}
 use Rattle.std.specs.List.{list_any}
-use Rattle.std.specs.Prelude.{Bool, Err, IfSome, List, Ok, Option, Result, Some, [], ℕ, ◌+◌, ◌==◌, ◌∷◌, ◌≡◌, ◌⊎◌}
+use Rattle.std.specs.Prelude.{Bool, Err, IfErr, IfSome, List, Ok, Option, Result, Some, [], ℕ, ◌+◌, ◌-◌, ◌<◌, ◌==◌, ◌^◌, ◌∷◌, ◌≡◌, ◌⊎◌}
 use Rattle.mdcc_audit.specs.Logs.{audit_of}
 use Rattle.mdcc_audit.specs.declared.audited.AuditCause.{AuditCause}
+use Rattle.mdcc_audit.specs.declared.audited.AuditFault.{AuditFault}
 use Rattle.mdcc_audit.specs.declared.audited.Place.{Place}
-use Rattle.mdcc_audit_command.specs.Audits.{Answers, AreTold, IsElsewhere, IsOneOf, UnlessDisk, logs_on, some_calls}
-use Rattle.mdcc_audit_command.specs.Texts.{contradiction_text}
+use Rattle.mdcc_audit.specs.declared.audited.Verdict3.{Verdict3}
+use Rattle.mdcc_audit_command.specs.Audits.{Answers, AreTold, IsElsewhere, IsOneOf, IsPrinting, SaysAt, UnlessDisk, logs_on, some_calls}
+use Rattle.mdcc_audit_command.specs.Texts.{audit_text, contradiction_text}
 use Rattle.mdcc_audit_command.specs.declared.found.Found.{Found}
+use Rattle.mdcc_centre.specs.Logged.{AreLogged}
 use Rattle.mdcc_centre.specs.Opening.{OnlyOpens}
 use Rattle.mdcc_config.specs.declared.config.Config.{Config}
 use Rattle.mdcc_disks.specs.Disks.{Disk}
 use Rattle.mdcc_dump.specs.Commands.{Untouched}
 use Rattle.mdcc_endings.specs.Endings.{Ends}
-use Rattle.mdcc_endings.specs.Logs.{EndsByLogs, IsTold, SaysLogs, node_at}
+use Rattle.mdcc_endings.specs.Logs.{EndsByLogs, IsTold, LogRefusal, SaysLogs, node_at}
 use Rattle.mdcc_endings.specs.Readings.{GivesConfig, IsRead}
 use Rattle.mdcc_endings.specs.declared.fault.Failure.{Failure}
 use Rattle.mdcc_language.specs.Errors.{error_line}
 use Rattle.mdcc_log_file.specs.Area.{payloads}
+use Rattle.mdcc_messages.specs.Spelling.{encodings_of}
+use Rattle.mdcc_messages.specs.declared.facts.Fact.{Fact}
+use Rattle.mdcc_option.specs.declared.cluster.Cluster.{Cluster}
+use Rattle.mdcc_protocol.specs.Facts.{epoch_of}
 use Rattle.mdcc_replay.specs.Runs.{own_line}
 use Rattle.mdcc_replay.specs.Writing.{Tells}
+use Rattle.mdcc_rules.specs.declared.node.BootFault.{BootFault}
+use Rattle.mdcc_struct.specs.Maps.{TxMap}
 
 -- ---- how it ends
 
@@ -49,6 +59,8 @@ module _ {D O : Type 0} (disk : D → ℕ → Disk) (may_leave : D → ℕ → L
     pub logs : AreTold disk disks_old config.cluster.quorums.centres → SaysLogs (node_at disk config.cluster disks_old) 1 config.cluster.quorums.centres found
     pub answers : AreTold disk disks_old config.cluster.quorums.centres
         → Answers (audit_of config.cluster.quorums (logs_on disk disks_old config.cluster)) found (held out_old) (held out_new)
+    -- it fails by what opening or printing fails by
+    pub fails : IfErr found (λ failure. IsPrinting failure ⊎ ((a : ℕ) × SaysAt disk config.cluster disks_old a failure))
     -- nothing was appended: at the disks of each centre calls of an opening were made and no others, and the same payloads are read again
     pub opens : (a : ℕ) → IsOneOf config.cluster.quorums.centres a → OnlyOpens disk may_leave moment left_since tears disks_old disks_new a found
     pub keeps : (a : ℕ) (all : List (List ℕ)) → IsOneOf config.cluster.quorums.centres a → IsTold disk disks_old a
@@ -83,3 +95,31 @@ abbrev pub AuditEndsByLogs : {D : Type 0} → (D → ℕ → Disk) → D → Opt
 AuditEndsByLogs disk disks left status =
     (input : List ℕ) (config : Config) → left ≡ Some input → IsRead input (Ok config) → AreTold disk disks config.cluster.quorums.centres
     → EndsByLogs (node_at disk config.cluster disks) 1 config.cluster.quorums.centres status
+
+-- ---- where nothing failed
+
+-- In the areas of this centre is a log that its node may have written, with an epoch below the last.
+pub record IsNodeLog {D : Type 0} (disk : D → ℕ → Disk) (disks : D) (cluster : Cluster) (a : ℕ) : Type 0 where
+  pub facts : List Fact
+  pub read : payloads (disk disks a).bytes (disk disks (a + 16)).bytes ≡ Ok (encodings_of facts)
+  pub logged : AreLogged cluster facts
+  pub below : epoch_of facts < 2 ^ 32 - 1
+
+-- all verdicts were printed, at status 0, or two facts contradict each other, at status 13
+abbrev pub Concludes : Result (TxMap Verdict3) AuditFault → ℕ → Option (List ℕ) → Option (List ℕ) → Type 0
+Concludes expected status before after =
+    ((verdicts : TxMap Verdict3) × (expected ≡ Ok verdicts) × (status ≡ 0) × Appends before after (audit_text verdicts))
+    ⊎ ((cause : AuditCause) × (a : Place) × (b : Place) × (expected ≡ Err (AuditFault.Contradiction cause a b)) × (status ≡ 13) × Appends before after [])
+
+-- the node of a centre has too few cells for its log
+abbrev pub LacksCells : {D : Type 0} → (D → ℕ → Disk) → D → Cluster → Type 0
+LacksCells disk disks cluster =
+    (a : ℕ) × (needed : ℕ) × (cells : ℕ) × IsOneOf cluster.quorums.centres a × (node_at disk cluster disks a ≡ Err (LogRefusal.NoNode (BootFault.Room needed cells)))
+
+-- Over logs that nodes may have written the audit concludes, unless memory or cells lack.
+abbrev pub AuditCompletes : {D O : Type 0} → (D → ℕ → Disk) → (O → Option (List ℕ)) → D → O → O → Option (List ℕ) → ℕ → Type 0
+AuditCompletes disk held disks out_old out_new left status =
+    (input : List ℕ) (config : Config) → left ≡ Some input → IsRead input (Ok config) → AreTold disk disks config.cluster.quorums.centres
+    → ((a : ℕ) → IsOneOf config.cluster.quorums.centres a → IsNodeLog disk disks config.cluster a)
+    → Concludes (audit_of config.cluster.quorums (logs_on disk disks config.cluster)) status (held out_old) (held out_new)
+    ⊎ ((status ≡ 10) ⊎ ((status ≡ 11) × LacksCells disk disks config.cluster))

@@ -5,12 +5,13 @@ ghost use Rattle.std.specs.Io.KnownBytes.{Appends};
 ghost use Rattle.mdcc_audit.specs.Auditing.{end_of};
 ghost use Rattle.mdcc_audit.specs.Represents.{state_of};
 ghost use Rattle.mdcc_audit_command.specs.Audits.{Answers, IsElsewhere, IsOneOf, IsPrinting, some_calls};
-ghost use Rattle.mdcc_audit_command.specs.Commands.{AuditEnds, AuditEndsByLogs, DoesAudit, EndsContradicted, RunsAudit, is_audit_status};
+ghost use Rattle.mdcc_audit_command.specs.Commands.{AuditCompletes, AuditEnds, AuditEndsByLogs, DoesAudit, EndsContradicted, RunsAudit, is_audit_status};
 ghost use Rattle.mdcc_audit_command.specs.Texts.{audit_text};
 ghost use Rattle.mdcc_base.specs.Causes.{Rose};
 ghost use Rattle.mdcc_base.specs.declared.source.ReadAllFault.{ReadAllFault as AReadAllFault};
 ghost use Rattle.mdcc_centre.specs.Opening.{OnlyOpens};
 ghost use Rattle.mdcc_dump.specs.Commands.{Untouched};
+ghost use Rattle.mdcc_endings.specs.Completions.{IsStill};
 ghost use Rattle.mdcc_endings.specs.Readings.{IsEarly};
 ghost use Rattle.mdcc_endings.specs.declared.fault.Failure.{Failure as AFailure};
 ghost use Rattle.mdcc_log_file.specs.Both.{RoseAtOne};
@@ -156,8 +157,10 @@ pub fn run_audit<S: Source, O: Sink, E: Sink, D: Disks>(
     ensures link { result ≡ 8 → ⊥ }
     ensures output { result ≡ 6 → Rose (O.faults out.old) (O.faults out.new) }
 
-    // Over an accepted configuration and disks that tell their bytes: the status by the logs.
+    // Over an accepted configuration and disks that tell their bytes: the status by the logs, and where nothing failed.
     ensures logs { AuditEndsByLogs D.disk disks.old (S.left source.old) result }
+    ensures completes { IsStill (S.faults source.old) (S.faults source.new) → IsStill (O.faults out.old) (O.faults out.new) → ((p : ℕ) → IsStill (D.disk disks.old p).faults (D.disk disks.new p).faults)
+        → AuditCompletes D.disk O.held disks.old out.old out.new (S.left source.old) result }
 {
     let found = audit_logs(alloc, source, disks, out);
     end_audit(alloc, &found, err)

@@ -1,4 +1,4 @@
-use Rattle.std.proofs.Common.{◌≡◌, Err, refl, subst, sym}
+use Rattle.std.proofs.Common.{Err, IfErr, inl, inr, refl, subst, sym, ℕ, ◌≡◌, ◌⊎◌}
 use Rattle.std.proofs.KnownBytes.{Appends-nil}
 use Rattle.std.proofs.lemmas.Result.{IfErr-weaker, err_from_is_err_and}
 use Rattle.mdcc_audit.specs.Auditing.{State, end_of}
@@ -6,7 +6,7 @@ use Rattle.mdcc_audit.specs.Logs.{audit_of}
 use Rattle.mdcc_audit_command.proofs.Ended.{audited_runs, log_not_early, not_printing, nothing_answered, only_printing, says_again, says_printed, some_open, unless_broke, unread_runs}
 use Rattle.mdcc_audit_command.proofs.Places.{elsewhere_fewer}
 use Rattle.mdcc_audit_command.proofs.Stages.{unless_so}
-use Rattle.mdcc_audit_command.specs.Audits.{Answers, SaysAt, logs_on, some_calls}
+use Rattle.mdcc_audit_command.specs.Audits.{Answers, IsPrinting, SaysAt, logs_on, some_calls}
 use Rattle.mdcc_audit_command.specs.Commands.{AuditsLogs}
 use Rattle.mdcc_base.specs.declared.source.ReadAllFault.{ReadAllFault}
 use Rattle.mdcc_centre.proofs.Opens.{opens_broke, opens_whole}
@@ -76,6 +76,7 @@ returns-in_err-audit-clause-runs g c =
           subst (λ r. Answers expected r (g.O.Sink.held c.args.out.now) (g.O.Sink.held c.args.out.now)) (sym e)
           (nothing_answered expected failure (g.O.Sink.held c.args.out.now) (g.O.Sink.held c.args.out.now)
           (λ is. subst (λ (f : Failure). SaysAt g.D.Disks.disk cluster c.args.disks.now c.in_err-audit.ensures.fails.0 f) is c.in_err-audit.ensures.fails.1) (Appends-nil (g.O.Sink.held c.args.out.now)));
+      fails = subst (λ r. IfErr r (λ (f : Failure). IsPrinting f ⊎ ((a : ℕ) × SaysAt g.D.Disks.disk cluster c.args.disks.now a f))) (sym e) (inr c.in_err-audit.ensures.fails);
       opens = λ a one. opens_broke g.D.Disks.disk g.D.Disks.may_leave g.D.Disks.moment g.D.Disks.left_since g.D.Disks.tears c.args.disks.now c.take_logs.new.disks c.take_logs.result c.from_residual-in_err-audit.result a failure e
           (c.take_logs.ensures.opens a one);
       keeps = λ a all one told read. unless_broke c.take_logs.result c.from_residual-in_err-audit.result failure _ c.in_err-audit.was e (c.take_logs.ensures.keeps a all one told read);
@@ -130,6 +131,7 @@ returns-clause-runs g c =
       logs = λ told. says_printed (node_at g.D.Disks.disk cluster c.args.disks.now) cluster.quorums.centres c.in_ok-audit.audit c.print_audit.result c.print_audit.ensures.fault (c.in_ok-audit.ensures.logs told);
       answers = λ told.
           subst (λ (s : State). Answers (end_of s) c.print_audit.result (g.O.Sink.held c.args.out.now) (g.O.Sink.held c.print_audit.new.out)) (c.in_ok-audit.ensures.state told) c.print_audit.ensures.answers;
+      fails = IfErr-weaker c.print_audit.result _ _ (λ failure may. inl may) c.print_audit.ensures.fault;
       opens = λ a one. opens_whole g.D.Disks.disk g.D.Disks.may_leave g.D.Disks.moment g.D.Disks.left_since g.D.Disks.tears c.args.disks.now c.take_logs.new.disks c.take_logs.result c.print_audit.result a c.in_ok-audit.audit c.in_ok-audit.was
           (c.take_logs.ensures.opens a one);
       keeps = λ a all one told read. unless_so c.print_audit.result _ (c.in_ok-audit.ensures.keeps a all one told read);

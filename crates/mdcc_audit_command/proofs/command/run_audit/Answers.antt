@@ -1,7 +1,9 @@
 use Rattle.std.proofs.Common.{◌≡◌, Err, arith}
 use Rattle.std.proofs.lemmas.Result.{IfErr-at_err}
+use Rattle.mdcc_audit_command.proofs.Completed.{audit_completes}
 use Rattle.mdcc_audit_command.proofs.Ended.{audit_ends, failed_with, status_by}
 use Rattle.mdcc_base.specs.declared.source.ReadAllFault.{ReadAllFault}
+use Rattle.mdcc_dump.proofs.Completed.{still_disks}
 use Rattle.mdcc_dump.proofs.Ended.{input_early}
 use Rattle.mdcc_dump.specs.Commands.{Untouched}
 use Rattle.mdcc_endings.proofs.Causes.{causes_of}
@@ -61,3 +63,12 @@ pub returns-clause-logs : goal.returns-clause-logs
 returns-clause-logs g c =
     audit_ends g.D.Disks.disk g.D.Disks.may_leave g.D.Disks.moment g.D.Disks.left_since g.D.Disks.tears g.O.Sink.held c.args.disks.now c.audit_logs-found.new.disks c.args.out.now c.audit_logs-found.new.out
     c.audit_logs-found.result c.end_audit.result (status_by c.audit_logs-found.result c.end_audit.result _ _ _ _ c.end_audit.ensures.ends) (g.S.Source.left c.args.source.now) c.audit_logs-found.ensures.runs
+
+pub returns-clause-completes : goal.returns-clause-completes
+returns-clause-completes g c = λ source output disks.
+    audit_completes g.D.Disks.disk g.D.Disks.may_leave g.D.Disks.moment g.D.Disks.left_since g.D.Disks.tears g.O.Sink.held c.args.disks.now c.audit_logs-found.new.disks c.args.out.now c.audit_logs-found.new.out
+    c.audit_logs-found.result c.end_audit.result _ _ _ _ c.end_audit.ensures.ends
+    (λ e. source (c.audit_logs-found.ensures.input e))
+    (λ a e. still_disks g.D.Disks.disk c.args.disks.now c.audit_logs-found.new.disks a disks (c.audit_logs-found.ensures.disk a e))
+    (λ e. output (c.audit_logs-found.ensures.output e))
+    (g.S.Source.left c.args.source.now) c.audit_logs-found.ensures.runs
