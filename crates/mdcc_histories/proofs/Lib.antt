@@ -2,6 +2,7 @@ pub mod Amounts
 pub mod Cursor
 pub mod HeaderTexts
 pub mod Hex
+pub mod InOrder
 pub mod LineTexts
 pub mod NineParts
 pub mod Numbers

@@ -1,5 +1,8 @@
 //! Updates of a commit.
-ghost use Rattle.std.specs.Prelude.{◌≡◌, ◌+◌, ◌++◌, ◌<◌, ◌≤◌, ◌^◌, ◌∷◌, [], IfErr, IsTrue, length, take};
+ghost use Rattle.std.specs.Prelude.{◌≡◌, ◌&&◌, ◌+◌, ◌++◌, ◌<◌, ◌≤◌, ◌^◌, ◌∷◌, [], IfErr, IsTrue, length, take};
+ghost use Rattle.std.specs.Bool.{OnTrue};
+ghost use Rattle.mdcc_option.specs.Parts.{AreParts, are_ascending};
+ghost use Rattle.mdcc_option.specs.declared.items.Part.{Part as APart};
 ghost use Rattle.mdcc_language.specs.Updates.{begins_update, parse_item};
 ghost use Rattle.mdcc_language.specs.Words.{parts_from};
 ghost use Rattle.mdcc_histories.specs.Grammar.{first_parts, parse_add, parse_write, part_of};
@@ -8,6 +11,7 @@ ghost use Rattle.mdcc_histories.specs.Slots.{parts_by};
 use crate::places::word_at;
 use crate::words::{seen_in, version_in};
 use arrayvec::ArrayVec;
+use mdcc_base::Key;
 use mdcc_language::SchedCause;
 use mdcc_option::{Item, Part, Update};
 use mdcc_words::TextFault;
@@ -67,6 +71,37 @@ impl FirstParts {
             self.parts.push(part);
         }
     }
+}
+
+// Whether a key stands before the first of these parts.
+fn is_before(key: &Key, parts: &[Part]) -> bool
+    ensures { (part : APart) → part.key ≡ key.now → are_ascending (part ∷ parts.now) ≡ (result && are_ascending parts.now) }
+{
+    match parts {
+        [next, ..] => key.is_below(&next.key),
+        [] => true,
+    }
+}
+
+// Whether each key stands before the next.
+fn are_ascending(parts: &[Part]) -> bool
+    ensures { result ≡ are_ascending parts.now }
+{
+    let mut rest = parts;
+    while let [part, others @ ..] = rest {
+        if !is_before(&part.key, others) {
+            return false;
+        }
+        rest = others;
+    }
+    true
+}
+
+/// Whether these are the parts of a transaction as they stand: 1 to 8, in key order.
+pub(crate) fn are_in_order(parts: &[Part]) -> bool
+    ensures { OnTrue result (AreParts parts.now) }
+{
+    !parts.is_empty() && parts.len() <= 8 && are_ascending(parts)
 }
 
 // The item whose two parts stand behind a place and end the word.

@@ -2,6 +2,8 @@
 ghost use Rattle.std.specs.Prelude.{◌≡◌, ◌+◌, ◌-◌, ◌<◌, ◌≤◌, ◌^◌, IfOk, List, OnOk, None, Some, length, ℕ, ℤ};
 ghost use Rattle.mdcc_base.specs.Unless.{GivesUnless};
 ghost use Rattle.mdcc_language.specs.Lines.{lines_in};
+ghost use Rattle.mdcc_option.specs.Parts.{AreParts};
+ghost use Rattle.mdcc_option.specs.Transaction.{checked_by, transaction_of};
 ghost use Rattle.mdcc_check.specs.declared.history.HistoryLine.{HistoryLine as ALine};
 ghost use Rattle.mdcc_histories.specs.Grammar.{first_known};
 ghost use Rattle.mdcc_histories.specs.declared.lines.Spelled.{Spelled as ASpelled};
@@ -11,12 +13,12 @@ ghost use Rattle.mdcc_histories.specs.Texts.{text_verdict_of};
 
 use crate::header::parse_header;
 use crate::lines::{LineFault, LineKind, Slot, empty_slot, read_line};
-use crate::parts::FirstParts;
+use crate::parts::{FirstParts, are_in_order};
 use crate::places::split_line;
 use mdcc_base::{Memory, TxId};
 use mdcc_check::{Checker, HistoryCause};
 use mdcc_language::HeaderFault;
-use mdcc_option::{Known, Schema, Transaction};
+use mdcc_option::{DraftFault, Known, Part, Schema, Transaction, parts_fault};
 use std::alloc::Global;
 
 /// The most bytes of a history.
@@ -76,6 +78,14 @@ fn found_at(number: u32, cause: Option<HistoryCause>) -> Option<(u32, HistoryCau
     }
 }
 
+// Why parts in key order make no transaction as they stand.
+fn fault_in_order(schema: &Schema, parts: &[Part]) -> Option<DraftFault>
+    requires { AreParts parts.now }
+    ensures { transaction_of schema.now parts.now ≡ checked_by result parts.now }
+{
+    parts_fault(schema, parts)
+}
+
 /// Checks the lines of a text one after another, and keeps none of them.
 #[derive(Drop)]
 pub(crate) struct Tallier {
@@ -103,21 +113,17 @@ impl Tallier {
     }
 
     // Takes a transaction that committed.
-    fn commit(
-        &mut self,
-        schema: &Schema,
-        tx: &TxId,
-        transaction: &Transaction,
-    ) -> Result<(), Memory>
-        requires { self.old.commits + self.old.reads < 2 ^ 64 - 1 }
+    fn commit(&mut self, schema: &Schema, tx: &TxId, parts: &[Part]) -> Result<(), Memory>
+        requires counts { self.old.commits + self.old.reads < 2 ^ 64 - 1 }
+        requires parts { length parts.now ≤ 8 }
         ensures taken { (t : Tally) → Tallies self.old t
-            → OnOk result (Tallies self.new (with_line schema.now t (ALine.Commit tx.now transaction.now))) }
+            → OnOk result (Tallies self.new (with_line schema.now t (ALine.Commit tx.now parts.now))) }
         ensures number { OnOk result (self.new.number ≡ self.old.number) }
         ensures counts { OnOk result (self.new.commits + self.new.reads ≡ self.old.commits + self.old.reads + 1) }
     {
         self.commits += 1;
         if self.found.is_none() {
-            let cause = self.checker.commit(schema, tx, transaction)?;
+            let cause = self.checker.commit_parts(schema, tx, parts)?;
             self.found = found_at(self.number, cause);
         }
         Ok(())
@@ -148,6 +154,26 @@ impl Tallier {
         self.reads += 1;
     }
 
+    // Takes a transaction of these parts in key order that committed, where they make one.
+    fn commit_in_order(
+        &mut self,
+        schema: &Schema,
+        tx: &TxId,
+        parts: &[Part],
+    ) -> Result<(), HistoryFault>
+        requires counts { self.old.commits + self.old.reads < 2 ^ 64 - 1 }
+        requires parts { AreParts parts.now }
+        ensures taken { (t : Tally) → Tallies self.old t
+            → Takes (Tallies self.new) result (tally_spelled schema.now t (ASpelled.Commit tx.now parts.now)) }
+        ensures number { OnOk result (self.new.number ≡ self.old.number) }
+        ensures counts { OnOk result (self.new.commits + self.new.reads ≡ self.old.commits + self.old.reads + 1) }
+    {
+        match fault_in_order(schema, parts) {
+            None => Ok(self.commit(schema, tx, parts)?),
+            Some(fault) => Err(HistoryFault::Line(self.number, LineFault::Begin(fault))),
+        }
+    }
+
     // Takes a transaction of these parts that committed, where they make one.
     fn commit_parts(
         &mut self,
@@ -161,8 +187,12 @@ impl Tallier {
         ensures number { OnOk result (self.new.number ≡ self.old.number) }
         ensures counts { OnOk result (self.new.commits + self.new.reads ≡ self.old.commits + self.old.reads + 1) }
     {
-        match Transaction::new(schema, parts.as_slice()) {
-            Ok(transaction) => Ok(self.commit(schema, tx, &transaction)?),
+        let parts = parts.as_slice();
+        if are_in_order(parts) {
+            return self.commit_in_order(schema, tx, parts);
+        }
+        match Transaction::new(schema, parts) {
+            Ok(transaction) => Ok(self.commit(schema, tx, transaction.parts())?),
             Err(fault) => Err(HistoryFault::Line(self.number, LineFault::Begin(fault))),
         }
     }

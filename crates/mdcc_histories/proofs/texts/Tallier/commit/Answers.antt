@@ -6,7 +6,7 @@ use Rattle.mdcc_histories.proofs.texts.Tallier.commit.Goals as goal
 
 pub returns-in_ok-cause-clause-taken : goal.returns-in_ok-cause-clause-taken
 returns-in_ok-cause-clause-taken c t h =
-    let line = HistoryLine.Commit c.args.tx.now c.args.transaction.now in
+    let line = HistoryLine.Commit c.args.tx.now c.args.parts.now in
     let none : t.found ≡ None = sym h.found ∙ none-by c.args.self.now.found c.is_none.result c.is_none.ensures c.if-is_none.true in
     let cause = c.in_ok-cause.ensures.cause t.progress (h.checker none) in
     record {
