@@ -1,4 +1,4 @@
-"""The facts of one centre and what they say, after `mdcc_protocol`'s definitions Facts, Fit, Structures and Visible, for pictures.
+"""The facts of one centre and what they say, after `mdcc_def_protocol`'s definitions Facts, Fit, Structures and Visible, for pictures.
 
 Values are those of `parts.py`: a mark is a choice, or None for a rejection; options are a dictionary from transaction to mark; an outcome is
 the choices of a commit, or None for an abort. No proof stands on this: what is made of it is held against the program's own report.

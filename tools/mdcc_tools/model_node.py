@@ -1,4 +1,4 @@
-"""The step of a node, after `mdcc_rules`' definitions, for pictures: what it adds to its facts, and which messages it sends, in their order."""
+"""The step of a node, after `mdcc_def_rules`' definitions, for pictures: what it adds to its facts, and which messages it sends, in their order."""
 from typing import List, NamedTuple, Optional, Tuple
 
 from . import logs

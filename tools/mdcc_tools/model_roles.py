@@ -1,4 +1,4 @@
-"""What a node keeps beside its facts, role by role, after `mdcc_protocol`'s definitions Learner, Manager, Leader and Recover, for pictures."""
+"""What a node keeps beside its facts, role by role, after `mdcc_def_protocol`'s definitions Learner, Manager, Leader and Recover, for pictures."""
 from typing import Dict, List, NamedTuple, Optional, Tuple
 
 from .model_facts import ACCEPT_ROOM, FITS, REJECT_ROOM, Ballot, Cluster, Facts, Load, Options, Tx, are_within_room, exact_fit

@@ -1,6 +1,6 @@
 """A schedule, replayed by the model of a node, with all that happened on the way: which event sent which message, and what each one carries.
 
-After `mdcc_simulation` and `mdcc_language`. The report that it writes is held against the program's (`difference`), so what it says of messages
+After `mdcc_def_simulation` and `mdcc_def_language`. The report that it writes is held against the program's (`difference`), so what it says of messages
 is only believed as far as both are the same.
 """
 import struct

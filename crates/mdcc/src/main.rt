@@ -6,7 +6,7 @@ mod streams;
 use crate::streams::{Reading, Writing};
 use mdcc_base::{Sink, write_all};
 use mdcc_command::run;
-use mdcc_files::FileDisks;
+use mdcc_disks_files::FileDisks;
 use mdcc_link::UdpLink;
 use std::env;
 use std::io::ErrorKind;

@@ -5,10 +5,10 @@ use Rattle.mdcc_base.specs.Counts.{number_of}
 use Rattle.mdcc_base.specs.declared.identifiers.Ballot.{Ballot}
 use Rattle.mdcc_base.specs.declared.key.Key.{Key}
 use Rattle.mdcc_struct.specs.declared.options.Options.{Options}
-use Rattle.mdcc_protocol.specs.Acceptor.{answer_to_marks, new_marks}
+use Rattle.mdcc_def_protocol.specs.Acceptor.{answer_to_marks, new_marks}
 use Rattle.mdcc_facts.specs.Past.{count_past, is_past_mark}
-use Rattle.mdcc_protocol.specs.declared.acceptor.AcceptAnswer.{AcceptAnswer}
-use Rattle.mdcc_messages.specs.declared.facts.Fact.{Fact}
+use Rattle.mdcc_def_protocol.specs.declared.acceptor.AcceptAnswer.{AcceptAnswer}
+use Rattle.mdcc_def_messages.specs.declared.facts.Fact.{Fact}
 
 few : {X : Type 0} (p : X → Bool) (xs : List X) → number_of p xs ≤ length xs
 few p [] = omega arith

@@ -1,11 +1,11 @@
 //! What an acceptor answers to a leader's structure. (Generalized Paxos.)
 ghost use Rattle.std.specs.Prelude.{◌≡◌, List};
-ghost use Rattle.mdcc_messages.specs.declared.facts.Fact.{Fact as AFact};
-ghost use Rattle.mdcc_protocol.specs.Acceptor.{answer_to_marks, new_marks, on_accept};
+ghost use Rattle.mdcc_def_messages.specs.declared.facts.Fact.{Fact as AFact};
+ghost use Rattle.mdcc_def_protocol.specs.Acceptor.{answer_to_marks, new_marks, on_accept};
 
 use mdcc_base::{Ballot, Key};
+use mdcc_def_protocol::AcceptAnswer;
 use mdcc_facts::FactStore;
-use mdcc_protocol::AcceptAnswer;
 use mdcc_struct::Options;
 
 // A vote, where a mark's transaction is not finished and was not voted at the ballot.

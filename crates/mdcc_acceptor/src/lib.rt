@@ -8,6 +8,6 @@ pub mod prepare;
 pub mod propose;
 
 pub use accept::on_accept;
-pub use mdcc_protocol::{AcceptAnswer, PrepareAnswer, ProposeAnswer};
+pub use mdcc_def_protocol::{AcceptAnswer, PrepareAnswer, ProposeAnswer};
 pub use prepare::on_prepare;
 pub use propose::{answer_proposal, on_propose};

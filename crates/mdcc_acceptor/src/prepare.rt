@@ -1,11 +1,11 @@
 //! What an acceptor answers to a leader that asks for its promise. (Fast Paxos.)
 ghost use Rattle.std.specs.Prelude.{◌≡◌, List};
-ghost use Rattle.mdcc_messages.specs.declared.facts.Fact.{Fact as AFact};
-ghost use Rattle.mdcc_protocol.specs.Acceptor.{on_prepare, promise_answer, range_end};
+ghost use Rattle.mdcc_def_messages.specs.declared.facts.Fact.{Fact as AFact};
+ghost use Rattle.mdcc_def_protocol.specs.Acceptor.{on_prepare, promise_answer, range_end};
 
 use mdcc_base::{Ballot, Key};
+use mdcc_def_protocol::PrepareAnswer;
 use mdcc_facts::FactStore;
-use mdcc_protocol::PrepareAnswer;
 
 // The end of the range: a centre that holds a later version promises the asked one alone.
 fn range_end<S: FactStore>(store: &S, key: &Key, version: u64, through: u64) -> u64

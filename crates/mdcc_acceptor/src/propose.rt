@@ -1,18 +1,18 @@
 //! What an acceptor answers to a proposal at the fast ballot. (Fast Paxos; MDCC.)
 ghost use Rattle.std.specs.Prelude.{◌≡◌, IfSome, List, None};
-ghost use Rattle.mdcc_messages.specs.declared.facts.Fact.{Fact as AFact};
-ghost use Rattle.mdcc_protocol.specs.Acceptor.{answer_after, answer_by_promise, answer_by_vote, answer_to_new, fit_of, on_propose, vote_by_fit, vote_on, vote_to_accept, vote_to_reject};
-ghost use Rattle.mdcc_protocol.specs.Facts.{outcome_kept, vote_of};
-ghost use Rattle.mdcc_protocol.specs.Marks.{seen_in};
-ghost use Rattle.mdcc_protocol.specs.declared.acceptor.ProposeAnswer.{ProposeAnswer as AProposeAnswer};
+ghost use Rattle.mdcc_def_messages.specs.declared.facts.Fact.{Fact as AFact};
+ghost use Rattle.mdcc_def_protocol.specs.Acceptor.{answer_after, answer_by_promise, answer_by_vote, answer_to_new, fit_of, on_propose, vote_by_fit, vote_on, vote_to_accept, vote_to_reject};
+ghost use Rattle.mdcc_def_protocol.specs.Facts.{outcome_kept, vote_of};
+ghost use Rattle.mdcc_def_protocol.specs.Marks.{seen_in};
+ghost use Rattle.mdcc_def_protocol.specs.declared.acceptor.ProposeAnswer.{ProposeAnswer as AProposeAnswer};
 
 use crate::bounded::is_bounded;
 use mdcc_base::{Ballot, Plain, TxId};
+use mdcc_def_protocol::ProposeAnswer;
 use mdcc_escrow::laws::capped_loads_are_bounded;
 use mdcc_escrow::{Fit, accept_room, fast_fit, reject_room};
 use mdcc_facts::FactStore;
 use mdcc_option::{Cause, Choice, Cluster, Mark, Update};
-use mdcc_protocol::ProposeAnswer;
 
 // The transactions that a write saw; an add has none.
 fn seen_in(update: &Update) -> &[TxId]

@@ -7,9 +7,9 @@ use Rattle.mdcc_base.specs.declared.identifiers.Ballot.{Ballot}
 use Rattle.mdcc_base.specs.declared.key.Key.{Key}
 use Rattle.mdcc_option.specs.declared.choices.Choice.{Choice}
 use Rattle.mdcc_struct.specs.declared.options.Options.{Options}
-use Rattle.mdcc_messages.specs.declared.facts.Fact.{Fact}
+use Rattle.mdcc_def_messages.specs.declared.facts.Fact.{Fact}
 use Rattle.mdcc_audit.specs.Auditing.{Placed}
-use Rattle.mdcc_audit.specs.Contradictions.{AreInOrder, IsOneOf, Saying, choice_sayings, choices_in, choices_named, mark_in, marks_in, outcomes_in}
+use Rattle.mdcc_audit.specs.Contradictions.{AreInOrder, IsOneOf, Saying, choice_sayings, choices_in, choices_named, mark_saying, mark_sayings, outcome_sayings}
 use Rattle.mdcc_audit.specs.Firsts.{place_lt}
 use Rattle.mdcc_audit.specs.Logs.{placed_from, placed_log, placed_of}
 use Rattle.mdcc_audit.specs.declared.audited.Place.{Place}
@@ -115,7 +115,7 @@ logs-behind centre (log ∷ logs) = log-behind centre 1 log logs (logs-behind (c
 
 -- ---- what a fact says has its place
 
-own-outcomes : (one : Placed) (e : Saying) → IsOneOf e (outcomes_in one) → e.1.place ≡ one.0
+own-outcomes : (one : Placed) (e : Saying) → IsOneOf e (outcome_sayings one) → e.1.place ≡ one.0
 own-outcomes (place, Fact.Heard tx outcome) e (inl is) = ap (λ (x : Saying). x.1.place) is
 own-outcomes (place, Fact.Heard tx outcome) e (inr none) = elim none [ ]
 own-outcomes (place, Fact.Voted key version ballot options offered) e none = elim none [ ]
@@ -124,19 +124,19 @@ own-outcomes (place, Fact.Floor centre epoch seq) e none = elim none [ ]
 own-outcomes (place, Fact.Promised key low high ballot) e none = elim none [ ]
 own-outcomes (place, Fact.Adopted key version item adds) e none = elim none [ ]
 
-own-mapped : (place : Place) (key : Key) (version : ℕ) (ballot : Ballot) (options : Options) (e : Saying) → IsOneOf e (map (mark_in place key version ballot) options)
+own-mapped : (place : Place) (key : Key) (version : ℕ) (ballot : Ballot) (options : Options) (e : Saying) → IsOneOf e (map (mark_saying place key version ballot) options)
     → e.1.place ≡ place
 own-mapped place key version ballot [] e none = elim none [ ]
 own-mapped place key version ballot (x ∷ xs) e (inl is) = ap (λ (x : Saying). x.1.place) is
 own-mapped place key version ballot (x ∷ xs) e (inr more) = own-mapped place key version ballot xs e more
 
-own-marks : (one : Placed) (e : Saying) → IsOneOf e (marks_in one) → e.1.place ≡ one.0
+own-marks : (one : Placed) (e : Saying) → IsOneOf e (mark_sayings one) → e.1.place ≡ one.0
 own-marks (place, Fact.Voted key version ballot options offered) e is = by_ballot (is_fast ballot) refl
   where
     by_ballot : (fast : Bool) → is_fast ballot ≡ fast → e.1.place ≡ place
-    by_ballot true fast = elim (subst (λ b. IsOneOf e (cond b [] (map (mark_in place key version ballot) options))) fast is) [ ]
+    by_ballot true fast = elim (subst (λ b. IsOneOf e (cond b [] (map (mark_saying place key version ballot) options))) fast is) [ ]
     by_ballot false classic =
-        own-mapped place key version ballot options e (subst (λ b. IsOneOf e (cond b [] (map (mark_in place key version ballot) options))) classic is)
+        own-mapped place key version ballot options e (subst (λ b. IsOneOf e (cond b [] (map (mark_saying place key version ballot) options))) classic is)
 own-marks (place, Fact.Heard tx outcome) e none = elim none [ ]
 own-marks (place, Fact.Booted epoch) e none = elim none [ ]
 own-marks (place, Fact.Floor centre epoch seq) e none = elim none [ ]
@@ -153,11 +153,11 @@ own-choices (place, fact) e is =
     of-choice choice (inr (inl is)) = ap (λ (x : Saying). x.1.place) is
     of-choice choice (inr (inr none)) = elim none [ ]
 
-pub outcomes-in-order : (logs : List (List Fact)) → AreInOrder (flat_map outcomes_in (placed_of logs))
-outcomes-in-order logs = said-in-order outcomes_in own-outcomes (placed_of logs) (logs-behind 1 logs)
+pub outcomes-in-order : (logs : List (List Fact)) → AreInOrder (flat_map outcome_sayings (placed_of logs))
+outcomes-in-order logs = said-in-order outcome_sayings own-outcomes (placed_of logs) (logs-behind 1 logs)
 
-pub marks-in-order : (logs : List (List Fact)) → AreInOrder (flat_map marks_in (placed_of logs))
-marks-in-order logs = said-in-order marks_in own-marks (placed_of logs) (logs-behind 1 logs)
+pub marks-in-order : (logs : List (List Fact)) → AreInOrder (flat_map mark_sayings (placed_of logs))
+marks-in-order logs = said-in-order mark_sayings own-marks (placed_of logs) (logs-behind 1 logs)
 
 pub choices-in-order : (logs : List (List Fact)) → AreInOrder (flat_map choices_in (placed_of logs))
 choices-in-order logs = said-in-order choices_in own-choices (placed_of logs) (logs-behind 1 logs)

@@ -7,7 +7,7 @@ use Rattle.indexmap.specs.IndexMap.{insert_entry}
 use Rattle.mdcc_audit.specs.Firsts.{Pair, Said, Table, first_at, say}
 use Rattle.mdcc_audit.specs.Subjects.{subject_eq}
 use Rattle.mdcc_audit.specs.Values.{value_eq}
-use Rattle.mdcc_audit.specs.Votes.{Tallies, Tally, tallied, with_given}
+use Rattle.mdcc_audit.specs.Votes.{SubjectTallies, SubjectTally, tallied, with_given}
 use Rattle.mdcc_audit.specs.declared.firsts.First.{First}
 use Rattle.mdcc_audit.specs.declared.subjects.Subject.{Subject}
 use Rattle.mdcc_audit.specs.declared.votes.Given.{Given}
@@ -54,10 +54,10 @@ set-insert (e ∷ es) subject v w some =
       | inr other ↦ rw other (ap (λ rest. e ∷ rest) (ih (some-rest v e.1 other some)))
     ]
 
-pub tallied-more : (old new : Tallies) (subject : Subject) (a : ℕ) (given : Given) (was now : Tally) → Some was ≡ lookup (subject_eq subject) old
+pub tallied-more : (old new : SubjectTallies) (subject : Subject) (a : ℕ) (given : Given) (was now : SubjectTally) → Some was ≡ lookup (subject_eq subject) old
     → new ≡ set_value (subject_eq subject) old now → now ≡ with_given was a given → new ≡ tallied old subject a given
 tallied-more old new subject a given was now there is made = rw (is, set-insert old subject was now there, made, ← there) refl
 
-pub tallied-new : (old lent new : Tallies) (subject : Subject) (a : ℕ) (given : Given) (tally : Tally) → None ≡ lookup (subject_eq subject) old → lent ≡ old
+pub tallied-new : (old lent new : SubjectTallies) (subject : Subject) (a : ℕ) (given : Given) (tally : SubjectTally) → None ≡ lookup (subject_eq subject) old → lent ≡ old
     → new ≡ insert_entry subject_eq lent subject tally → tally ≡ (a, given) ∷ [] → new ≡ tallied old subject a given
 tallied-new old lent new subject a given tally none same is made = rw (is, same, made, ← none) refl

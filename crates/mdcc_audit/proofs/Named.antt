@@ -8,7 +8,7 @@ use Rattle.std.specs.declared.cmp.Ordering.{Ordering}
 use Rattle.std.specs.declared.cmp.Ordering.TheVariants.{Equal, Greater, Less}
 use Rattle.mdcc_base.specs.TxId.{tx_eq, tx_lt}
 use Rattle.mdcc_base.specs.declared.identifiers.TxId.{TxId}
-use Rattle.mdcc_ledger.specs.Ledger.{with_tx}
+use Rattle.mdcc_def_ledger.specs.Ledger.{with_tx}
 
 abbrev pub tx_cmp : TxId → TxId → Ordering
 tx_cmp a b = ordering_then (nat_cmp a.centre b.centre) (ordering_then (nat_cmp a.epoch b.epoch) (nat_cmp a.seq b.seq))

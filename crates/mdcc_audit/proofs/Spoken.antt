@@ -13,10 +13,10 @@ use Rattle.mdcc_option.specs.declared.choices.Choice.{Choice}
 use Rattle.mdcc_option.specs.declared.choices.Mark.{Mark}
 use Rattle.mdcc_option.specs.declared.choices.Outcome.{Outcome}
 use Rattle.mdcc_struct.specs.declared.options.Options.{Options}
-use Rattle.mdcc_protocol.specs.Marks.{choice_in}
-use Rattle.mdcc_messages.specs.declared.facts.Fact.{Fact}
-use Rattle.mdcc_audit.specs.Auditing.{Placed, State, after_fact, taken}
-use Rattle.mdcc_audit.specs.Contradictions.{choice_sayings, choices_in, choices_named, mark_in, marks_in, outcomes_in}
+use Rattle.mdcc_def_protocol.specs.Marks.{choice_in}
+use Rattle.mdcc_def_messages.specs.declared.facts.Fact.{Fact}
+use Rattle.mdcc_audit.specs.Auditing.{Placed, State, after_fact, fact_taken}
+use Rattle.mdcc_audit.specs.Contradictions.{choice_sayings, choices_in, choices_named, mark_saying, mark_sayings, outcome_sayings}
 use Rattle.mdcc_audit.specs.Firsts.{Said}
 use Rattle.mdcc_audit.specs.Sayings.{say_accepted, say_choice, say_heard, say_marks, say_offered}
 use Rattle.mdcc_audit.specs.declared.audited.Place.{Place}
@@ -29,7 +29,7 @@ fold-map f g z (x ∷ xs) = fold-map f g (f z (g x)) xs
 -- ---- outcomes
 
 pub all-outcomes : (quorums : Sizes) (state : State) (facts : List Placed)
-    → (fold (taken quorums) state facts).outcomes ≡ fold say_one state.outcomes (flat_map outcomes_in facts)
+    → (fold (fact_taken quorums) state facts).outcomes ≡ fold say_one state.outcomes (flat_map outcome_sayings facts)
 all-outcomes quorums state [] = refl
 all-outcomes quorums state ((place, Fact.Heard tx outcome) ∷ facts) = all-outcomes quorums (after_fact quorums state place (Fact.Heard tx outcome)) facts
 all-outcomes quorums state ((place, Fact.Voted key version ballot options offered) ∷ facts) =
@@ -42,20 +42,20 @@ all-outcomes quorums state ((place, Fact.Adopted key version item adds) ∷ fact
 -- ---- marks
 
 marks-said : (said : Said) (place : Place) (key : Key) (version : ℕ) (ballot : Ballot) (options : Options) (offered : Option Choice)
-    → say_marks said place key version ballot options ≡ fold say_one said (marks_in (place, Fact.Voted key version ballot options offered))
+    → say_marks said place key version ballot options ≡ fold say_one said (mark_sayings (place, Fact.Voted key version ballot options offered))
 marks-said said place key version ballot options offered =
     elim (cases_Bool (is_fast ballot)) [
       | inl fast ↦ rw fast refl
-      | inr classic ↦ rw classic (fold-map say_one (mark_in place key version ballot) said options)
+      | inr classic ↦ rw classic (fold-map say_one (mark_saying place key version ballot) said options)
     ]
 
 pub all-marks : (quorums : Sizes) (state : State) (facts : List Placed)
-    → (fold (taken quorums) state facts).marks ≡ fold say_one state.marks (flat_map marks_in facts)
+    → (fold (fact_taken quorums) state facts).marks ≡ fold say_one state.marks (flat_map mark_sayings facts)
 all-marks quorums state [] = refl
 all-marks quorums state ((place, Fact.Voted key version ballot options offered) ∷ facts) =
     all-marks quorums (after_fact quorums state place (Fact.Voted key version ballot options offered)) facts
-    ∙ ap (λ said. fold say_one said (flat_map marks_in facts)) (marks-said state.marks place key version ballot options offered)
-    ∙ sym (fold-append say_one state.marks (marks_in (place, Fact.Voted key version ballot options offered)) (flat_map marks_in facts))
+    ∙ ap (λ said. fold say_one said (flat_map mark_sayings facts)) (marks-said state.marks place key version ballot options offered)
+    ∙ sym (fold-append say_one state.marks (mark_sayings (place, Fact.Voted key version ballot options offered)) (flat_map mark_sayings facts))
 all-marks quorums state ((place, Fact.Heard tx outcome) ∷ facts) = all-marks quorums (after_fact quorums state place (Fact.Heard tx outcome)) facts
 all-marks quorums state ((place, Fact.Booted epoch) ∷ facts) = all-marks quorums state facts
 all-marks quorums state ((place, Fact.Floor centre epoch seq) ∷ facts) = all-marks quorums state facts
@@ -92,7 +92,7 @@ heard-said place said tx (Outcome.Commit choices) = choices-said place said choi
 heard-said place said tx Outcome.Abort = refl
 
 pub all-choices : (quorums : Sizes) (state : State) (facts : List Placed)
-    → (fold (taken quorums) state facts).choices ≡ fold say_one state.choices (flat_map choices_in facts)
+    → (fold (fact_taken quorums) state facts).choices ≡ fold say_one state.choices (flat_map choices_in facts)
 all-choices quorums state [] = refl
 all-choices quorums state ((place, Fact.Voted key version ballot options offered) ∷ facts) =
     all-choices quorums (after_fact quorums state place (Fact.Voted key version ballot options offered)) facts

@@ -2,7 +2,7 @@
 use Rattle.std.proofs.Common.{◌≡◌, ℕ, List, ◌+◌, Some, refl, drop, fold}
 use Rattle.std.specs.Prelude.{slice_get}
 use Rattle.mdcc_base.specs.declared.identifiers.TxId.{TxId}
-use Rattle.mdcc_ledger.specs.Ledger.{with_tx}
+use Rattle.mdcc_def_ledger.specs.Ledger.{with_tx}
 use Rattle.mdcc_struct.proofs.Walks.{drop-get}
 use Rattle.mdcc_struct.specs.Maps.{TxMap, txs_of}
 use Rattle.mdcc_audit.specs.Auditing.{with_txs}

@@ -6,12 +6,12 @@ use Rattle.mdcc_base.specs.declared.identifiers.TxId.{TxId}
 use Rattle.mdcc_base.specs.declared.key.Key.{Key}
 use Rattle.mdcc_option.specs.declared.choices.Choice.{Choice}
 use Rattle.mdcc_struct.specs.Maps.{TxMap, txs_of}
-use Rattle.mdcc_messages.specs.declared.facts.Fact.{Fact}
-use Rattle.mdcc_ledger.specs.Ledger.{with_tx}
+use Rattle.mdcc_def_messages.specs.declared.facts.Fact.{Fact}
+use Rattle.mdcc_def_ledger.specs.Ledger.{with_tx}
 use Rattle.mdcc_audit.specs.Firsts.{Pair, Said, Table, first_at, nothing_said}
 use Rattle.mdcc_audit.specs.Sayings.{say_accepted, say_heard, say_marks, say_offered, say_outcome}
 use Rattle.mdcc_audit.specs.Subjects.{at_instance, of_tx}
-use Rattle.mdcc_audit.specs.Votes.{Counted, is_among, is_own, nothing_counted, vote_all}
+use Rattle.mdcc_audit.specs.Votes.{CountedVotes, is_among, is_own, nothing_counted, vote_all}
 use Rattle.mdcc_audit.specs.declared.audited.AuditCause.{AuditCause}
 use Rattle.mdcc_audit.specs.declared.audited.AuditFault.{AuditFault}
 use Rattle.mdcc_audit.specs.declared.audited.Place.{Place}
@@ -26,7 +26,7 @@ pub record State : Type 0 where
   pub outcomes : Said
   pub marks : Said
   pub choices : Said
-  pub counted : Counted
+  pub counted : CountedVotes
   pub named : List TxId
 
 abbrev pub nothing_taken : State
@@ -57,23 +57,23 @@ after_fact quorums state place fact = state
 
 -- ---- verdicts
 
-abbrev pub is_accepted_at : Counted → TxId → Key × ℕ → Bool
+abbrev pub is_accepted_at : CountedVotes → TxId → Key × ℕ → Bool
 is_accepted_at counted tx e = is_among counted.accepted (at_instance tx e.0 e.1)
 
-abbrev pub is_rejected_at : Counted → TxId → Key × ℕ → Bool
+abbrev pub is_rejected_at : CountedVotes → TxId → Key × ℕ → Bool
 is_rejected_at counted tx e = is_among counted.rejected (at_instance tx e.0 e.1)
 
 -- Abort where one of its options is chosen rejected, else Commit where all are chosen accepted. (MDCC.)
-abbrev pub verdict_at : Counted → TxId → List (Key × ℕ) → Verdict3
+abbrev pub verdict_at : CountedVotes → TxId → List (Key × ℕ) → Verdict3
 verdict_at counted tx places =
     if list_any (is_rejected_at counted tx) places then Verdict3.Abort
     else (if nat_lt 0 (length places) && list_all (is_accepted_at counted tx) places then Verdict3.Commit else Verdict3.Open)
 
 -- where no choice names it, a rejection that is chosen anywhere decides
-abbrev pub verdict_unnamed : Counted → TxId → Verdict3
+abbrev pub verdict_unnamed : CountedVotes → TxId → Verdict3
 verdict_unnamed counted tx = if is_among counted.rejected (of_tx tx) then Verdict3.Abort else Verdict3.Open
 
-abbrev pub verdict_by : Counted → TxId → Option (List (Key × ℕ)) → Verdict3
+abbrev pub verdict_by : CountedVotes → TxId → Option (List (Key × ℕ)) → Verdict3
 verdict_by counted tx None = verdict_unnamed counted tx
 verdict_by counted tx (Some places) = verdict_at counted tx places
 
@@ -137,8 +137,8 @@ unless_found cause (Some pair) next = Err (AuditFault.Contradiction cause pair.0
 abbrev pub verdicts_of : State → TxMap Verdict3
 verdicts_of state = map (λ tx. (tx, verdict_of state tx)) state.named
 
-abbrev pub end_of : State → Result (TxMap Verdict3) AuditFault
-end_of state =
+abbrev pub audit_end : State → Result (TxMap Verdict3) AuditFault
+audit_end state =
     unless_found AuditCause.Outcomes state.outcomes.found
     (unless_found AuditCause.Marks state.marks.found
     (unless_found AuditCause.Choices state.choices.found
@@ -150,9 +150,9 @@ end_of state =
 abbrev pub Placed : Type 0
 Placed = Place × Fact
 
-abbrev pub taken : Sizes → State → Placed → State
-taken quorums state placed = after_fact quorums state placed.0 placed.1
+abbrev pub fact_taken : Sizes → State → Placed → State
+fact_taken quorums state placed = after_fact quorums state placed.0 placed.1
 
 -- what is kept after these facts, in this order
-abbrev pub state_after : Sizes → List Placed → State
-state_after quorums facts = fold (taken quorums) nothing_taken facts
+abbrev pub audit_state_after : Sizes → List Placed → State
+audit_state_after quorums facts = fold (fact_taken quorums) nothing_taken facts

@@ -9,9 +9,9 @@ use Rattle.mdcc_base.specs.declared.key.Key.{Key}
 use Rattle.mdcc_option.specs.declared.choices.Choice.{Choice}
 use Rattle.mdcc_option.specs.declared.choices.Mark.{Mark}
 use Rattle.mdcc_option.specs.declared.choices.Outcome.{Outcome}
-use Rattle.mdcc_protocol.specs.Marks.{choice_in}
-use Rattle.mdcc_messages.specs.declared.facts.Fact.{Fact}
-use Rattle.mdcc_audit.specs.Auditing.{Placed, state_after}
+use Rattle.mdcc_def_protocol.specs.Marks.{choice_in}
+use Rattle.mdcc_def_messages.specs.declared.facts.Fact.{Fact}
+use Rattle.mdcc_audit.specs.Auditing.{Placed, audit_state_after}
 use Rattle.mdcc_audit.specs.Firsts.{Pair, place_lt}
 use Rattle.mdcc_audit.specs.Logs.{placed_of}
 use Rattle.mdcc_audit.specs.Sayings.{mark_value, outcome_value, said_at}
@@ -28,17 +28,17 @@ Saying = Subject × First
 -- ---- what a fact says
 
 -- what is heard says an outcome
-abbrev pub outcomes_in : Placed → List Saying
-outcomes_in (place, Fact.Heard tx outcome) = (of_tx tx, said_at place (outcome_value outcome)) ∷ []
-outcomes_in (place, fact) = []
+abbrev pub outcome_sayings : Placed → List Saying
+outcome_sayings (place, Fact.Heard tx outcome) = (of_tx tx, said_at place (outcome_value outcome)) ∷ []
+outcome_sayings (place, fact) = []
 
-abbrev pub mark_in : Place → Key → ℕ → Ballot → TxId × Mark → Saying
-mark_in place key version ballot e = (in_vote e.0 key version ballot, said_at place (mark_value e.1))
+abbrev pub mark_saying : Place → Key → ℕ → Ballot → TxId × Mark → Saying
+mark_saying place key version ballot e = (in_vote e.0 key version ballot, said_at place (mark_value e.1))
 
 -- a vote at a classic ballot says marks
-abbrev pub marks_in : Placed → List Saying
-marks_in (place, Fact.Voted key version ballot options offered) = if is_fast ballot then [] else map (mark_in place key version ballot) options
-marks_in (place, fact) = []
+abbrev pub mark_sayings : Placed → List Saying
+mark_sayings (place, Fact.Voted key version ballot options offered) = if is_fast ballot then [] else map (mark_saying place key version ballot) options
+mark_sayings (place, fact) = []
 
 -- the choices that a fact has
 abbrev pub choices_named : Fact → List Choice
@@ -67,9 +67,9 @@ AreAlike sayings = (a b : Saying) → IsOneOf a sayings → IsOneOf b sayings �
 -- no pair is found exactly where what is said is alike
 abbrev pub FindsContradictions : Type 0
 FindsContradictions = (quorums : Sizes) (facts : List Placed) →
-    ((state_after quorums facts).outcomes.found ≡ None ↔ AreAlike (flat_map outcomes_in facts))
-    × ((state_after quorums facts).marks.found ≡ None ↔ AreAlike (flat_map marks_in facts))
-    × ((state_after quorums facts).choices.found ≡ None ↔ AreAlike (flat_map choices_in facts))
+    ((audit_state_after quorums facts).outcomes.found ≡ None ↔ AreAlike (flat_map outcome_sayings facts))
+    × ((audit_state_after quorums facts).marks.found ≡ None ↔ AreAlike (flat_map mark_sayings facts))
+    × ((audit_state_after quorums facts).choices.found ≡ None ↔ AreAlike (flat_map choices_in facts))
 
 -- ---- the first contradiction
 
@@ -94,11 +94,11 @@ AreInOrder (x ∷ xs) = ((e : Saying) → IsOneOf e xs → place_lt e.1.place x.
 -- of what facts say in order of their places, the pair that is found is the first
 abbrev pub FindsFirst : Type 0
 FindsFirst = (quorums : Sizes) (facts : List Placed) (pair : Pair) →
-    (AreInOrder (flat_map outcomes_in facts) → (state_after quorums facts).outcomes.found ≡ Some pair → IsFirstPair (flat_map outcomes_in facts) pair)
-    × (AreInOrder (flat_map marks_in facts) → (state_after quorums facts).marks.found ≡ Some pair → IsFirstPair (flat_map marks_in facts) pair)
-    × (AreInOrder (flat_map choices_in facts) → (state_after quorums facts).choices.found ≡ Some pair → IsFirstPair (flat_map choices_in facts) pair)
+    (AreInOrder (flat_map outcome_sayings facts) → (audit_state_after quorums facts).outcomes.found ≡ Some pair → IsFirstPair (flat_map outcome_sayings facts) pair)
+    × (AreInOrder (flat_map mark_sayings facts) → (audit_state_after quorums facts).marks.found ≡ Some pair → IsFirstPair (flat_map mark_sayings facts) pair)
+    × (AreInOrder (flat_map choices_in facts) → (audit_state_after quorums facts).choices.found ≡ Some pair → IsFirstPair (flat_map choices_in facts) pair)
 
 -- what the facts of whole logs say stands in order
 abbrev pub LogsAreInOrder : Type 0
 LogsAreInOrder = (logs : List (List Fact)) →
-    AreInOrder (flat_map outcomes_in (placed_of logs)) × AreInOrder (flat_map marks_in (placed_of logs)) × AreInOrder (flat_map choices_in (placed_of logs))
+    AreInOrder (flat_map outcome_sayings (placed_of logs)) × AreInOrder (flat_map mark_sayings (placed_of logs)) × AreInOrder (flat_map choices_in (placed_of logs))

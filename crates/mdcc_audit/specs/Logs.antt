@@ -2,8 +2,8 @@
 use Rattle.std.specs.Prelude.{List, Result, [], ℕ, ◌++◌, ◌+◌, ◌∷◌}
 use Rattle.mdcc_base.specs.Sizes.{Sizes}
 use Rattle.mdcc_struct.specs.Maps.{TxMap}
-use Rattle.mdcc_messages.specs.declared.facts.Fact.{Fact}
-use Rattle.mdcc_audit.specs.Auditing.{Placed, end_of, state_after}
+use Rattle.mdcc_def_messages.specs.declared.facts.Fact.{Fact}
+use Rattle.mdcc_audit.specs.Auditing.{Placed, audit_end, audit_state_after}
 use Rattle.mdcc_audit.specs.declared.audited.AuditFault.{AuditFault}
 use Rattle.mdcc_audit.specs.declared.audited.Verdict3.{Verdict3}
 
@@ -23,4 +23,4 @@ placed_of logs = placed_from 1 logs
 
 -- what an audit of these logs says
 abbrev pub audit_of : Sizes → List (List Fact) → Result (TxMap Verdict3) AuditFault
-audit_of quorums logs = end_of (state_after quorums (placed_of logs))
+audit_of quorums logs = audit_end (audit_state_after quorums (placed_of logs))

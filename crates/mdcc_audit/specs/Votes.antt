@@ -39,47 +39,47 @@ given_eq _ _ = false
 -- ---- the votes on an option at a ballot
 
 -- what each centre gave it first
-abbrev pub Tally : Type 0
-Tally = List (ℕ × Given)
+abbrev pub SubjectTally : Type 0
+SubjectTally = List (ℕ × Given)
 
-abbrev pub given_by : Tally → ℕ → Option Given
+abbrev pub given_by : SubjectTally → ℕ → Option Given
 given_by [] a = None
 given_by (g ∷ gs) a = if g.0 == a then Some g.1 else given_by gs a
 
 -- the first vote of a centre counts
-abbrev pub with_given : Tally → ℕ → Given → Tally
+abbrev pub with_given : SubjectTally → ℕ → Given → SubjectTally
 with_given tally a given = if is_some (given_by tally a) then tally else tally ++ (a, given) ∷ []
 
 -- how many centres of the cluster gave just this
-abbrev pub number_given : Sizes → Tally → Given → ℕ
+abbrev pub number_given : Sizes → SubjectTally → Given → ℕ
 number_given quorums tally given = number_of (given_eq given) (filter_map (given_by tally) (all_centres quorums))
 
 -- a quorum of the ballot gave it
-abbrev pub is_chosen : Sizes → Subject → Tally → Given → Bool
+abbrev pub is_chosen : Sizes → Subject → SubjectTally → Given → Bool
 is_chosen quorums subject tally given = nat_le (quorum_size quorums subject.ballot) (number_given quorums tally given)
 
 -- ---- all votes
 
-abbrev pub Tallies : Type 0
-Tallies = List (Subject × Tally)
+abbrev pub SubjectTallies : Type 0
+SubjectTallies = List (Subject × SubjectTally)
 
-abbrev pub tally_at : Tallies → Subject → Tally
+abbrev pub tally_at : SubjectTallies → Subject → SubjectTally
 tally_at tallies subject = unwrap_or (lookup (subject_eq subject) tallies) []
 
-abbrev pub tallied : Tallies → Subject → ℕ → Given → Tallies
+abbrev pub tallied : SubjectTallies → Subject → ℕ → Given → SubjectTallies
 tallied tallies subject a given = insert_entry subject_eq tallies subject (with_given (tally_at tallies subject) a given)
 
 -- the votes, the options that a quorum accepted in their instance, and those that one rejected there, with their transactions
-pub record Counted : Type 0 where
-  pub tallies : Tallies
+pub record CountedVotes : Type 0 where
+  pub tallies : SubjectTallies
   pub accepted : List Subject
   pub rejected : List Subject
 
-abbrev pub nothing_counted : Counted
+abbrev pub nothing_counted : CountedVotes
 nothing_counted = record { tallies = []; accepted = []; rejected = [] }
 
-abbrev pub instance_of : Subject → Subject
-instance_of subject = at_instance subject.tx subject.key subject.version
+abbrev pub instance_subject : Subject → Subject
+instance_subject subject = at_instance subject.tx subject.key subject.version
 
 abbrev pub is_among : List Subject → Subject → Bool
 is_among subjects subject = list_any (subject_eq subject) subjects
@@ -88,25 +88,25 @@ abbrev pub with_subject : List Subject → Subject → List Subject
 with_subject subjects subject = insert_key subject_eq subjects subject
 
 -- what a quorum gave an option is noted
-abbrev pub chosen_with : Counted → Subject → Given → Counted
-chosen_with counted subject Given.Acceptance = record counted { accepted = with_subject counted.accepted (instance_of subject) }
+abbrev pub chosen_with : CountedVotes → Subject → Given → CountedVotes
+chosen_with counted subject Given.Acceptance = record counted { accepted = with_subject counted.accepted (instance_subject subject) }
 chosen_with counted subject Given.Rejection =
-    record counted { rejected = with_subject (with_subject counted.rejected (instance_of subject)) (of_tx subject.tx) }
+    record counted { rejected = with_subject (with_subject counted.rejected (instance_subject subject)) (of_tx subject.tx) }
 chosen_with counted subject Given.Nothing = counted
 
-abbrev pub noted_if : Bool → Counted → Subject → Given → Counted
+abbrev pub noted_if : Bool → CountedVotes → Subject → Given → CountedVotes
 noted_if false counted subject given = counted
 noted_if true counted subject given = chosen_with counted subject given
 
 -- a centre votes on an option at a ballot
-abbrev pub vote : Sizes → Counted → ℕ → Subject → Given → Counted
+abbrev pub vote : Sizes → CountedVotes → ℕ → Subject → Given → CountedVotes
 vote quorums counted a subject given =
     let tallies = tallied counted.tallies subject a given in
     noted_if (is_chosen quorums subject (tally_at tallies subject) given) (record counted { tallies = tallies }) subject given
 
-abbrev pub vote_mark : Sizes → ℕ → Key → ℕ → Ballot → Counted → TxId × Mark → Counted
+abbrev pub vote_mark : Sizes → ℕ → Key → ℕ → Ballot → CountedVotes → TxId × Mark → CountedVotes
 vote_mark quorums a key version ballot counted e = vote quorums counted a (in_vote e.0 key version ballot) (given_of e.0 key version e.1)
 
 -- a centre votes the marks of an instance at a ballot
-abbrev pub vote_all : Sizes → Counted → ℕ → Key → ℕ → Ballot → Options → Counted
+abbrev pub vote_all : Sizes → CountedVotes → ℕ → Key → ℕ → Ballot → Options → CountedVotes
 vote_all quorums counted a key version ballot options = fold (vote_mark quorums a key version ballot) counted options

@@ -1,6 +1,6 @@
 //! The audit of logs that are held as lists.
 ghost use Rattle.std.specs.Prelude.{◌≡◌, ◌+◌, ◌<◌, ◌≤◌, fold, length, map, OnOk};
-ghost use Rattle.mdcc_audit.specs.Auditing.{taken};
+ghost use Rattle.mdcc_audit.specs.Auditing.{fact_taken};
 ghost use Rattle.mdcc_audit.specs.Free.{is_audit_memory};
 ghost use Rattle.mdcc_audit.specs.Logs.{audit_of, placed_log};
 ghost use Rattle.mdcc_audit.specs.Represents.{state_of};
@@ -9,7 +9,7 @@ ghost use Rattle.mdcc_base.specs.Unless.{GivesUnless};
 use crate::audited::{AuditFault, Audited};
 use crate::taken::Audit;
 use mdcc_base::{Centre, HeapList, Memory};
-use mdcc_messages::Fact;
+use mdcc_def_messages::Fact;
 use mdcc_option::Cluster;
 use std::alloc::Global;
 
@@ -23,7 +23,7 @@ fn centre_at(index: usize) -> Centre
 
 // Takes all facts of the log of a centre.
 fn take_log(audit: &mut Audit, centre: Centre, log: &[Fact]) -> Result<(), Memory>
-    ensures state { OnOk result (state_of audit.new ≡ fold (taken audit.old.quorums) (state_of audit.old) (placed_log centre 1 log.now)) }
+    ensures state { OnOk result (state_of audit.new ≡ fold (fact_taken audit.old.quorums) (state_of audit.old) (placed_log centre 1 log.now)) }
     ensures quorums { audit.new.quorums ≡ audit.old.quorums }
 {
     for i in 0..log.len() {

@@ -2,8 +2,8 @@
 ghost use Rattle.std.specs.Prelude.{◌≡◌, OnOk};
 ghost use Rattle.mdcc_audit.specs.Auditing.{after_fact, nothing_taken, with_offered, with_txs};
 ghost use Rattle.mdcc_audit.specs.Represents.{state_of};
-ghost use Rattle.mdcc_ledger.specs.Ledger.{with_tx};
-ghost use Rattle.mdcc_messages.specs.declared.facts.Fact.{Fact as AFact};
+ghost use Rattle.mdcc_def_ledger.specs.Ledger.{with_tx};
+ghost use Rattle.mdcc_def_messages.specs.declared.facts.Fact.{Fact as AFact};
 ghost use Rattle.mdcc_struct.specs.Maps.{txs_of};
 
 use crate::audited::Place;
@@ -11,7 +11,7 @@ use crate::firsts::Firsts;
 use crate::sayings::{say_all_accepted, say_heard, say_marks, say_offered, say_outcome};
 use crate::votes::Votes;
 use mdcc_base::{Ballot, Centre, Key, Memory, Quorums, TxId};
-use mdcc_messages::Fact;
+use mdcc_def_messages::Fact;
 use mdcc_option::{Choice, Cluster, Outcome};
 use mdcc_struct::Options;
 use std::alloc::Global;

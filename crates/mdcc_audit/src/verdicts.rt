@@ -2,7 +2,7 @@
 ghost use Rattle.std.specs.List.{list_all, list_any};
 ghost use Rattle.std.specs.Option.{option_copied};
 ghost use Rattle.std.specs.Prelude.{◌≡◌, ◌++◌, Ok, map, IfOk};
-ghost use Rattle.mdcc_audit.specs.Auditing.{are_all_own, end_of, first_undecided, is_abort_verdict, is_accepted_at, is_commit_verdict, is_decided, is_rejected_at, is_whole, places_in, verdict_at, verdict_of, verdict_unnamed, verdicts_of, write_set_of};
+ghost use Rattle.mdcc_audit.specs.Auditing.{are_all_own, audit_end, first_undecided, is_abort_verdict, is_accepted_at, is_commit_verdict, is_decided, is_rejected_at, is_whole, places_in, verdict_at, verdict_of, verdict_unnamed, verdicts_of, write_set_of};
 ghost use Rattle.mdcc_audit.specs.Represents.{state_of};
 ghost use Rattle.mdcc_audit.specs.Free.{is_audit_memory};
 ghost use Rattle.mdcc_base.specs.Unless.{GivesUnless};
@@ -166,7 +166,7 @@ impl Audit {
 
     /// What the facts decided, or which two contradict each other.
     pub fn end(&self) -> Result<Audited, AuditFault>
-        ensures { GivesUnless is_audit_memory result (end_of (state_of self.now)) }
+        ensures { GivesUnless is_audit_memory result (audit_end (state_of self.now)) }
     {
         if let Some(pair) = self.outcomes.found {
             return Err(AuditFault::Contradiction(AuditCause::Outcomes, pair.0, pair.1));

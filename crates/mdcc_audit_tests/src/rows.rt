@@ -1,7 +1,7 @@
 //! Rows of facts, and whether an audit of them finds what it should.
 use mdcc_audit::{AuditCause, AuditFault, Audited, Place, Verdict3, audit};
 use mdcc_base::{Ballot, BoundedList, Centre, HeapList, Key, Quorums, TxId};
-use mdcc_messages::Fact;
+use mdcc_def_messages::Fact;
 use mdcc_option::{Choice, Cluster, FastLimit, Item, Mark, Outcome, Schema, Update};
 use mdcc_struct::Options;
 use std::alloc::Global;

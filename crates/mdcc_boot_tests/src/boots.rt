@@ -2,14 +2,14 @@
 ghost use Rattle.std.specs.Prelude.{[]};
 
 use crate::setup::{BOOTED, FLOOR, HEARD, PROMISED, five_centres};
-use mdcc_admission::loading::are_short;
-use mdcc_admission::parts_belong::is_centre;
 use mdcc_base::{Centre, HeapList};
-use mdcc_counted_facts::CountedFacts;
+use mdcc_def_messages::Fact;
 use mdcc_facts::FactStore;
-use mdcc_list_facts::ListFacts;
-use mdcc_messages::Fact;
+use mdcc_facts_counted::CountedFacts;
+use mdcc_facts_listed::ListFacts;
 use mdcc_node::{BootFault, Node};
+use mdcc_node_boot::loading::are_short;
+use mdcc_node_boot::parts_belong::is_centre;
 use std::alloc::Global;
 use std::process::Abort;
 use std::test::*;

@@ -2,14 +2,14 @@
 ghost use Rattle.std.specs.Prelude.{[], length, ◌≤◌};
 
 use crate::setup::{BOOTED, HEARD, PROMISED, five_centres};
-use mdcc_admission::parts_belong::is_centre;
 use mdcc_base::{Centre, Image};
-use mdcc_centre::{BootFault, StartFault, start};
-use mdcc_counted_facts::CountedFacts;
 use mdcc_disks::MemoryDisks;
 use mdcc_facts::FactStore;
-use mdcc_list_facts::ListFacts;
+use mdcc_facts_counted::CountedFacts;
+use mdcc_facts_listed::ListFacts;
 use mdcc_log::{Frames, LogFault};
+use mdcc_node_boot::parts_belong::is_centre;
+use mdcc_node_log::{BootFault, StartFault, start};
 use std::alloc::Global;
 use std::process::Abort;
 use std::test::*;

@@ -13,8 +13,8 @@ use Rattle.mdcc_option.specs.declared.choices.Choice.{Choice}
 use Rattle.mdcc_option.specs.declared.items.Delta.{Delta}
 use Rattle.mdcc_option.specs.declared.items.Item.{Item}
 use Rattle.mdcc_option.specs.declared.items.Update.{Update}
-use Rattle.mdcc_right_reads.specs.RightReads.{IsAdded, IsWritten}
-use Rattle.mdcc_check.specs.Versions.{held_in, held_with, new_version, version_with, with_added}
+use Rattle.mdcc_def_right_reads.specs.RightReads.{IsAdded, IsWritten}
+use Rattle.mdcc_check.specs.Versions.{held_in, new_version, version_held_with, version_with, with_added_delta}
 
 pub record IsKnown (committed : List (List Choice)) (key : Key) (version : ℕ) (held : Held) : Type 0 where
   pub same : held.version ≡ version
@@ -96,7 +96,7 @@ module _ (committed : List (List Choice)) (txn : List Choice) (listed : Contains
   }
 
   known-delta : (delta : Delta) → IsAdded committed key version delta → (held : Option Held) → Known committed key version held
-      → Known committed key version (option_map (with_added delta) held)
+      → Known committed key version (option_map (with_added_delta delta) held)
   known-delta delta a None k = k
   known-delta delta a (Some held) k = record {
     same = k.same;
@@ -108,7 +108,7 @@ module _ (committed : List (List Choice)) (txn : List Choice) (listed : Contains
   }
 
   known-add : (delta : Delta) → c.tx ≡ delta.tx → c.update ≡ Update.Add delta.amounts → (b : Bool) → (c.version == version) ≡ b
-      → (held : Option Held) → Known committed key version held → Known committed key version (cond b (option_map (with_added delta) held) held)
+      → (held : Option Held) → Known committed key version held → Known committed key version (cond b (option_map (with_added_delta delta) held) held)
   known-add delta of_tx adds true e held k = known-delta delta (known-one delta of_tx adds ((Decides-eqb _ _).0 e)) held k
   known-add delta of_tx adds false e held k = k
 
@@ -124,16 +124,16 @@ module _ (committed : List (List Choice)) (txn : List Choice) (listed : Contains
   known-by c one_of false e held k = k
 
   known-fold : (cs : List Choice) → ((c : Choice) → Contains cs c → Contains txn c) → (held : Option Held) → Known committed key version held
-      → Known committed key version (fold (held_with key version) held cs)
+      → Known committed key version (fold (version_held_with key version) held cs)
   known-fold [] sub held k = k
   known-fold (c ∷ cs) sub held k =
-      known-fold cs (λ d i. sub d (Contains-append_right (c ∷ []) cs d i)) (held_with key version held c)
+      known-fold cs (λ d i. sub d (Contains-append_right (c ∷ []) cs d i)) (version_held_with key version held c)
       (known-by c (sub c (Contains-append_left (c ∷ []) cs c (Contains-push [] c))) (key_eq c.key key) refl held k)
 
 -- one more transaction commits
 pub knows-more : (before : List (List Choice)) (txn choices : List Choice) → KnowsAll before choices → KnowsAll (before ++ txn ∷ []) (choices ++ txn)
 knows-more before txn choices k key version =
-    subst (Known (before ++ txn ∷ []) key version) (sym (fold-append (held_with key version) None choices txn))
+    subst (Known (before ++ txn ∷ []) key version) (sym (fold-append (version_held_with key version) None choices txn))
     (known-fold (before ++ txn ∷ []) txn (Contains-push before txn) key version txn (λ c i. i) (held_in choices key version)
     (known-later before (txn ∷ []) key version (held_in choices key version) (k key version)))
 

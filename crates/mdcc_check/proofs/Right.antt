@@ -8,7 +8,7 @@ use Rattle.mdcc_base.specs.TxId.{tx_eq, tx_lt}
 use Rattle.mdcc_base.specs.declared.identifiers.TxId.{TxId}
 use Rattle.mdcc_option.proofs.Equal.{Decides-item, Decides-tx}
 use Rattle.mdcc_option.specs.Held.{Held}
-use Rattle.mdcc_option.specs.OneCopy.{answer_of, may_apply, seen_of, shown, store_run, stored}
+use Rattle.mdcc_option.specs.OneCopy.{applied_answer, may_apply, seen_of, shown, store_run, stored}
 use Rattle.mdcc_option.specs.Transaction.{choices_of}
 use Rattle.mdcc_option.specs.declared.choices.Choice.{Choice}
 use Rattle.mdcc_option.specs.declared.items.Delta.{Delta}
@@ -17,8 +17,8 @@ use Rattle.mdcc_option.specs.declared.items.Known.{Known as AKnown}
 use Rattle.mdcc_check.proofs.Fits.{each-applied, goes-on}
 use Rattle.mdcc_check.proofs.Known.{IsKnown, Known, KnowsAll, knows-more, knows-none}
 use Rattle.mdcc_check.specs.Histories.{AreRightReads, IsRightHistory, are_distinct, commits_of, txs_committed}
-use Rattle.mdcc_right_reads.specs.RightReads.{IsAdded, IsItemVersion, IsReadOf, IsWritten, are_ascending}
-use Rattle.mdcc_check.specs.Verdicts.{Progress, after_line, apply_cause, ascend_behind, deltas_of, deltas_seen, first_fault, first_progress, line_cause, onto_deltas, onto_fault, read_cause, seen_cause, verdict_by, verdict_of, version_cause}
+use Rattle.mdcc_def_right_reads.specs.RightReads.{IsAdded, IsItemVersion, IsReadOf, IsWritten, are_txs_ascending}
+use Rattle.mdcc_check.specs.Verdicts.{Progress, after_line, apply_cause, ascend_behind, deltas_of, deltas_seen, first_fault, first_progress, history_verdict_by, line_cause, onto_deltas, onto_fault, read_cause, seen_cause, verdict_of, version_cause}
 use Rattle.mdcc_check.specs.Versions.{held_in}
 use Rattle.mdcc_check.specs.declared.history.HistoryCause.{HistoryCause}
 use Rattle.mdcc_check.specs.declared.history.HistoryLine.{HistoryLine}
@@ -81,12 +81,12 @@ seen : (deltas : List Delta) (txs : List TxId) (ds : List Delta) → deltas_of d
 seen deltas [] ds e = let same : [] ≡ ds = cc in subst (AreSeen deltas []) same (seen-none deltas)
 seen deltas (tx ∷ txs) ds e = seen-by deltas tx txs ds (find (λ d. tx_eq d.tx tx) deltas) (deltas_of deltas txs) (found deltas tx) (seen deltas txs) e
 
-ascend-alike : (tx : TxId) (txs : List TxId) → ascend_behind (Some tx) txs ≡ are_ascending (tx ∷ txs)
+ascend-alike : (tx : TxId) (txs : List TxId) → ascend_behind (Some tx) txs ≡ are_txs_ascending (tx ∷ txs)
 ascend-alike tx [] = refl
 ascend-alike tx (next ∷ txs) = ap (λ b. tx_lt tx next && b) (ascend-alike next txs)
 
 -- the two ways to say that transactions ascend
-pub ascending-alike : (txs : List TxId) → ascend_behind None txs ≡ are_ascending txs
+pub ascending-alike : (txs : List TxId) → ascend_behind None txs ≡ are_txs_ascending txs
 ascending-alike [] = refl
 ascending-alike (tx ∷ txs) = ascend-alike tx txs
 
@@ -114,11 +114,11 @@ first-read version held txs false is e = absurd (never-none held txs e)
 module _ (before : List (List Choice)) (known : AKnown) where
   -- a read of a version with these deltas
   shown-read : (item : Item) (h : Held) → IsKnown before known.key known.token.version h → (ds : List Delta) → AreSeen h.deltas known.token.seen ds
-      → are_ascending known.token.seen ≡ true → (shown (record h { deltas = ds })).0 ≡ item → IsItemVersion before known item (record h { deltas = ds })
+      → are_txs_ascending known.token.seen ≡ true → (shown (record h { deltas = ds })).0 ≡ item → IsItemVersion before known item (record h { deltas = ds })
   shown-read item h k ds s up is = record {
     written = subst (λ v. IsWritten before known.key v h.base) (sym k.same) k.written;
     added = λ delta i. subst (λ v. IsAdded before known.key v delta) (sym k.same) (k.added delta (s.among delta i));
-    once = ap are_ascending s.txs ∙ up;
+    once = ap are_txs_ascending s.txs ∙ up;
     shows = λ i. (sym is i, record { version = sym k.same i; seen = sym s.txs i });
   }
 
@@ -186,7 +186,7 @@ goes schema place p before (HistoryLine.Commit tx txn ∷ lines) k e =
     let choices = choices_of tx txn in
     let after = after_line schema p (HistoryLine.Commit tx txn) in
     let parts = no-fault place (line_cause schema p (HistoryLine.Commit tx txn)) (first_fault schema (place + 1) after lines) e in
-    let causes = no-cause (list_any (tx_eq tx) p.txs) (apply_cause (answer_of schema p.store choices)) parts.0 in
+    let causes = no-cause (list_any (tx_eq tx) p.txs) (apply_cause (applied_answer schema p.store choices)) parts.0 in
     let rest = goes schema (place + 1) after (before ++ choices ∷ []) lines (knows-more before choices p.choices k) parts.1 in
     let others = apart tx p.txs (txs_committed lines) rest.others in
     record {
@@ -200,7 +200,7 @@ goes schema place p before (HistoryLine.Commit tx txn ∷ lines) k e =
     both : (a b : Bool) → a ≡ true → b ≡ true → (a && b) ≡ true
     both a b x y = rw (x, y) refl
 
-no-verdict : (lines : List HistoryLine) (fault : Option (ℕ × HistoryCause)) (commits reads : ℕ) → verdict_by lines fault ≡ Verdict.Yes commits reads → fault ≡ None
+no-verdict : (lines : List HistoryLine) (fault : Option (ℕ × HistoryCause)) (commits reads : ℕ) → history_verdict_by lines fault ≡ Verdict.Yes commits reads → fault ≡ None
 no-verdict lines None commits reads e = refl
 no-verdict lines (Some fault) commits reads e = cc
 

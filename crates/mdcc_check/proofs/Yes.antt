@@ -10,7 +10,7 @@ use Rattle.mdcc_base.specs.TxId.{tx_eq}
 use Rattle.mdcc_base.specs.declared.identifiers.TxId.{TxId}
 use Rattle.mdcc_option.proofs.Equal.{Decides-item, Decides-tx}
 use Rattle.mdcc_option.specs.Held.{Held}
-use Rattle.mdcc_option.specs.OneCopy.{Store, answer_of, may_apply, seen_of, shown, store_run, stored}
+use Rattle.mdcc_option.specs.OneCopy.{OneCopyStore, applied_answer, may_apply, seen_of, shown, store_run, stored}
 use Rattle.mdcc_option.specs.Transaction.{choices_of}
 use Rattle.mdcc_option.specs.declared.choices.Choice.{Choice}
 use Rattle.mdcc_option.specs.declared.items.Delta.{Delta}
@@ -21,8 +21,8 @@ use Rattle.mdcc_check.proofs.Fits.{all-applied, made, went-on}
 use Rattle.mdcc_check.proofs.Once.{HasBase, HasDelta, KnowsOnce, once-applied, once-none}
 use Rattle.mdcc_check.proofs.Right.{are_others, ascending-alike, first-listed}
 use Rattle.mdcc_check.specs.Histories.{AreLines, AreRightReads, IsRightHistory, are_distinct, commits_of, txs_committed}
-use Rattle.mdcc_right_reads.specs.RightReads.{IsAdded, IsItemVersion, IsReadOf, IsWritten, are_ascending}
-use Rattle.mdcc_check.specs.Verdicts.{Progress, after_line, apply_cause, deltas_of, deltas_seen, first_fault, first_progress, is_commit, onto_deltas, onto_fault, seen_cause, value_cause, verdict_by, verdict_of, version_cause}
+use Rattle.mdcc_def_right_reads.specs.RightReads.{IsAdded, IsItemVersion, IsReadOf, IsWritten, are_txs_ascending}
+use Rattle.mdcc_check.specs.Verdicts.{Progress, after_line, apply_cause, deltas_of, deltas_seen, first_fault, first_progress, history_verdict_by, is_commit, onto_deltas, onto_fault, seen_cause, value_cause, verdict_of, version_cause}
 use Rattle.mdcc_check.specs.Versions.{held_in}
 use Rattle.mdcc_check.specs.declared.history.HistoryCause.{HistoryCause}
 use Rattle.mdcc_check.specs.declared.history.HistoryLine.{HistoryLine}
@@ -39,7 +39,7 @@ all-found all (d ∷ ds) h =
 
 -- a version with this base and these deltas shows this
 version-right : (at : Option Held) (held : Held) (txs : List TxId) (item : Item) → HasBase at held.base → ((d : Delta) → Contains held.deltas d → HasDelta at d)
-    → are_ascending txs ≡ true → txs ≡ seen_of held.deltas → item ≡ (shown held).0 → version_cause at txs (Some item) ≡ None
+    → are_txs_ascending txs ≡ true → txs ≡ seen_of held.deltas → item ≡ (shown held).0 → version_cause at txs (Some item) ≡ None
 version-right None held txs item base deltas up are is = absurd base
 version-right (Some h) held txs item base deltas up are is = ap (λ o. seen_cause h o (Some item)) found ∙ value
   where
@@ -55,7 +55,7 @@ version-right (Some h) held txs item base deltas up are is = ap (λ o. seen_caus
 abbrev Listed : List (List Choice) → List Choice → Type 0
 Listed before choices = (txn : List Choice) → Contains before txn → (c : Choice) → Contains txn c → Contains choices c
 
-module _ (before : List (List Choice)) (choices : List Choice) (store : Store) (k : KnowsOnce choices store) (listed : Listed before choices) (known : Known) (l : known.token.version < 2 ^ 64) where
+module _ (before : List (List Choice)) (choices : List Choice) (store : OneCopyStore) (k : KnowsOnce choices store) (listed : Listed before choices) (known : Known) (l : known.token.version < 2 ^ 64) where
   has-base : (version : ℕ) (item : Item) → known.token.version ≡ version → IsWritten before known.key version item → HasBase (held_in choices known.key known.token.version) item
   has-base version item same w =
       (k known.key known.token.version l).writes w.choice (listed w.choices w.listed w.choice w.one_of) w.of_key (w.of_version ∙ sym same) item w.seen w.writes
@@ -70,7 +70,7 @@ module _ (before : List (List Choice)) (choices : List Choice) (store : Store) (
       let same : known.token.version ≡ held.version = ap (λ p. p.1.version) v.shows in
       let are : known.token.seen ≡ seen_of held.deltas = ap (λ p. p.1.seen) v.shows in
       version-right (held_in choices known.key known.token.version) held known.token.seen item (has-base held.version held.base same v.written)
-      (λ d i. has-delta held.version d same (v.added d i)) (ap are_ascending are ∙ v.once) are (ap (λ p. p.0) v.shows)
+      (λ d i. has-delta held.version d same (v.added d i)) (ap are_txs_ascending are ∙ v.once) are (ap (λ p. p.0) v.shows)
 
   read-right : (item : Option Item) → IsReadOf before known item
       → cond (not (is_some item) && known.token.version == 0) None (version_cause (held_in choices known.key known.token.version) known.token.seen item) ≡ None
@@ -122,7 +122,7 @@ rightly schema place p before (HistoryLine.Commit tx txn ∷ lines) are k listed
     let choices = choices_of tx txn in
     let after = after_line schema p (HistoryLine.Commit tx txn) in
     let next = stored schema p.store p.store choices in
-    let goes = λ (s : Store). store_run schema s (commits_of lines) in
+    let goes = λ (s : OneCopyStore). store_run schema s (commits_of lines) in
     let may : list_all (may_apply schema p.store) choices ≡ true = made _ next goes run in
     let other = and_parts (not (list_any (tx_eq tx) p.txs)) (are_others p.txs (txs_committed lines)) others in
     let once = and_parts (not (list_any (λ other. tx_eq other tx) (txs_committed lines))) (are_distinct (txs_committed lines)) distinct in
@@ -130,7 +130,7 @@ rightly schema place p before (HistoryLine.Commit tx txn ∷ lines) are k listed
     let fresh : (c : Choice) → Contains choices c → (d : Choice) → Contains p.choices d → d.key ≡ c.key → d.tx ≡ c.tx → ⊥ =
     λ c i d j of_key of_tx. unlike (list_any (tx_eq tx) p.txs) (subst (λ t. list_any (tx_eq t) p.txs ≡ true) (of_tx ∙ choices-own tx txn c i) (among d j)) new in
     let knows : KnowsOnce (p.choices ++ choices) next = once-applied schema p.store p.choices choices k (choices-apart tx txn are.0.ascending) may fresh in
-    ap (λ b. onto_fault place (cond b (Some HistoryCause.Repeated) (apply_cause (answer_of schema p.store choices))) (first_fault schema (place + 1) after lines)) new
+    ap (λ b. onto_fault place (cond b (Some HistoryCause.Repeated) (apply_cause (applied_answer schema p.store choices))) (first_fault schema (place + 1) after lines)) new
     ∙ ap (λ cause. onto_fault place cause (first_fault schema (place + 1) after lines)) (all-applied schema p.store choices may)
     ∙ rightly schema (place + 1) after (before ++ choices ∷ []) lines are.1
     (subst (λ b. KnowsOnce (p.choices ++ choices) (unwrap_or (cond b (Some next) None) p.store)) (sym may) knows)
@@ -145,6 +145,6 @@ rightly schema place p before (HistoryLine.Commit tx txn ∷ lines) are k listed
 pub right-yes : (schema : List (ℤ × ℤ)) (lines : List HistoryLine) → AreLines lines → IsRightHistory schema lines
     → verdict_of schema lines ≡ Verdict.Yes (number_of is_commit lines) (length lines - number_of is_commit lines)
 right-yes schema lines are r =
-    ap (verdict_by lines)
+    ap (history_verdict_by lines)
     (rightly schema 0 first_progress [] lines are once-none (λ txn i. absurd (omega (arith, i.1))) (λ c i. absurd (omega (arith, i.1)))
     r.run r.distinct (others-none (txs_committed lines)) r.reads)

@@ -8,7 +8,7 @@ use Rattle.mdcc_option.specs.OneCopy.{IsRun}
 use Rattle.mdcc_option.specs.Parts.{AreParts}
 use Rattle.mdcc_option.specs.Transaction.{choices_of}
 use Rattle.mdcc_option.specs.declared.choices.Choice.{Choice}
-use Rattle.mdcc_right_reads.specs.RightReads.{IsReadOf}
+use Rattle.mdcc_def_right_reads.specs.RightReads.{IsReadOf}
 use Rattle.mdcc_check.specs.declared.history.HistoryLine.{HistoryLine}
 
 -- the committed transactions, each as its choices

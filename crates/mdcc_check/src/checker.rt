@@ -3,7 +3,7 @@ ghost use Rattle.std.specs.Prelude.{◌≡◌, ◌≤◌, IfOk, IsOkAnd, OnOk, N
 ghost use Rattle.mdcc_option.specs.Transaction.{choices_of};
 ghost use Rattle.mdcc_check.specs.declared.history.HistoryCause.{HistoryCause as ACause};
 ghost use Rattle.mdcc_check.specs.declared.history.HistoryLine.{HistoryLine as ALine};
-ghost use Rattle.mdcc_check.specs.Verdicts.{Progress, Represents, after_commit, after_line, apply_cause, commit_cause, first_progress, line_cause, read_cause};
+ghost use Rattle.mdcc_check.specs.Verdicts.{Progress, RepresentsProgress, after_commit, after_line, apply_cause, commit_cause, first_progress, line_cause, read_cause};
 
 use crate::choices::choices_of;
 use crate::reads::read_cause;
@@ -37,7 +37,7 @@ fn apply_cause(applied: Applied) -> Option<HistoryCause>
 impl Checker {
     /// No line yet.
     pub fn new(alloc: Global) -> Result<Checker, Memory>
-        ensures { IfOk result (λ checker. Represents checker first_progress) }
+        ensures { IfOk result (λ checker. RepresentsProgress checker first_progress) }
     {
         Ok(Checker {
             alloc,
@@ -54,12 +54,12 @@ impl Checker {
         tx: &TxId,
         choices: &[Choice],
     ) -> Result<Option<HistoryCause>, Memory>
-        ensures cause { (p : Progress) → Represents self.old p
+        ensures cause { (p : Progress) → RepresentsProgress self.old p
             → IfOk result (λ cause. cause ≡ commit_cause schema.now p.store p.txs tx.now choices.now) }
-        ensures after { (p : Progress) → Represents self.old p
-            → IfOk result (λ cause. cause ≡ None → Represents self.new (after_commit schema.now p tx.now choices.now)) }
-        ensures kept { (p : Progress) → Represents self.old p
-            → IfOk result (λ cause. (fault : ACause) → cause ≡ Some fault → Represents self.new p) }
+        ensures after { (p : Progress) → RepresentsProgress self.old p
+            → IfOk result (λ cause. cause ≡ None → RepresentsProgress self.new (after_commit schema.now p tx.now choices.now)) }
+        ensures kept { (p : Progress) → RepresentsProgress self.old p
+            → IfOk result (λ cause. (fault : ACause) → cause ≡ Some fault → RepresentsProgress self.new p) }
     {
         if self.txs.contains(tx) {
             return Ok(Some(HistoryCause::Repeated));
@@ -80,12 +80,12 @@ impl Checker {
         tx: &TxId,
         transaction: &Transaction,
     ) -> Result<Option<HistoryCause>, Memory>
-        ensures cause { (p : Progress) → Represents self.old p
+        ensures cause { (p : Progress) → RepresentsProgress self.old p
             → IfOk result (λ cause. cause ≡ line_cause schema.now p (ALine.Commit tx.now transaction.now)) }
-        ensures after { (p : Progress) → Represents self.old p
-            → IfOk result (λ cause. cause ≡ None → Represents self.new (after_line schema.now p (ALine.Commit tx.now transaction.now))) }
-        ensures kept { (p : Progress) → Represents self.old p
-            → IfOk result (λ cause. (fault : ACause) → cause ≡ Some fault → Represents self.new p) }
+        ensures after { (p : Progress) → RepresentsProgress self.old p
+            → IfOk result (λ cause. cause ≡ None → RepresentsProgress self.new (after_line schema.now p (ALine.Commit tx.now transaction.now))) }
+        ensures kept { (p : Progress) → RepresentsProgress self.old p
+            → IfOk result (λ cause. (fault : ACause) → cause ≡ Some fault → RepresentsProgress self.new p) }
     {
         self.commit_parts(schema, tx, transaction.parts())
     }
@@ -98,12 +98,12 @@ impl Checker {
         parts: &[Part],
     ) -> Result<Option<HistoryCause>, Memory>
         requires { length parts.now ≤ 8 }
-        ensures cause { (p : Progress) → Represents self.old p
+        ensures cause { (p : Progress) → RepresentsProgress self.old p
             → IfOk result (λ cause. cause ≡ line_cause schema.now p (ALine.Commit tx.now parts.now)) }
-        ensures after { (p : Progress) → Represents self.old p
-            → IfOk result (λ cause. cause ≡ None → Represents self.new (after_line schema.now p (ALine.Commit tx.now parts.now))) }
-        ensures kept { (p : Progress) → Represents self.old p
-            → IfOk result (λ cause. (fault : ACause) → cause ≡ Some fault → Represents self.new p) }
+        ensures after { (p : Progress) → RepresentsProgress self.old p
+            → IfOk result (λ cause. cause ≡ None → RepresentsProgress self.new (after_line schema.now p (ALine.Commit tx.now parts.now))) }
+        ensures kept { (p : Progress) → RepresentsProgress self.old p
+            → IfOk result (λ cause. (fault : ACause) → cause ≡ Some fault → RepresentsProgress self.new p) }
     {
         let choices = choices_of(self.alloc, tx, parts)?;
         self.commit_choices(schema, tx, choices.as_slice())
@@ -111,7 +111,7 @@ impl Checker {
 
     /// Why a read that comes next fails.
     pub fn read(&self, known: &Known) -> Option<HistoryCause>
-        ensures { (p : Progress) → Represents self.now p → result ≡ read_cause p.choices known.now }
+        ensures { (p : Progress) → RepresentsProgress self.now p → result ≡ read_cause p.choices known.now }
     {
         read_cause(&self.versions, known)
     }
@@ -123,12 +123,12 @@ impl Checker {
         schema: &Schema,
         line: &HistoryLine,
     ) -> Result<Option<HistoryCause>, Memory>
-        ensures cause { (p : Progress) → Represents self.old p
+        ensures cause { (p : Progress) → RepresentsProgress self.old p
             → IfOk result (λ cause. cause ≡ line_cause schema.now p line.now) }
-        ensures after { (p : Progress) → Represents self.old p
-            → IfOk result (λ cause. cause ≡ None → Represents self.new (after_line schema.now p line.now)) }
-        ensures kept { (p : Progress) → Represents self.old p
-            → IfOk result (λ cause. (fault : ACause) → cause ≡ Some fault → Represents self.new p) }
+        ensures after { (p : Progress) → RepresentsProgress self.old p
+            → IfOk result (λ cause. cause ≡ None → RepresentsProgress self.new (after_line schema.now p line.now)) }
+        ensures kept { (p : Progress) → RepresentsProgress self.old p
+            → IfOk result (λ cause. (fault : ACause) → cause ≡ Some fault → RepresentsProgress self.new p) }
     {
         match line {
             HistoryLine::Commit(tx, transaction) => self.commit(schema, tx, transaction),

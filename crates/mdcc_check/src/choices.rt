@@ -1,6 +1,6 @@
 //! The options that a transaction proposes, in a list that has no more room than they need.
 ghost use Rattle.std.specs.Prelude.{◌≡◌, ◌≤◌, IfOk, length};
-ghost use Rattle.mdcc_option.specs.Transaction.{choice_of, choices_of, write_set_of};
+ghost use Rattle.mdcc_option.specs.Transaction.{choice_of_part, choices_of, write_set_of_parts};
 
 use mdcc_base::{BoundedList, HeapList, Memory, Plain, TxId};
 use mdcc_option::{Choice, Part, WriteSet};
@@ -9,7 +9,7 @@ use std::alloc::Global;
 // All keys with their versions.
 fn write_set(parts: &[Part]) -> WriteSet
     requires { length parts.now ≤ 8 }
-    ensures { result ≡ write_set_of parts.now }
+    ensures { result ≡ write_set_of_parts parts.now }
 {
     let mut write_set = BoundedList::new();
     for part in parts {
@@ -20,7 +20,7 @@ fn write_set(parts: &[Part]) -> WriteSet
 
 // The choice for a part.
 fn choice(tx: &TxId, write_set: &WriteSet, part: &Part) -> Choice
-    ensures { result ≡ choice_of tx.now write_set.now part.now }
+    ensures { result ≡ choice_of_part tx.now write_set.now part.now }
 {
     Choice {
         tx: *tx,

@@ -1,10 +1,10 @@
 -- What is known of the output of a command.
 use Rattle.std.proofs.Common.{◌≡◌, IfSome, List, None, Option, Some, ℕ, subst}
-use Rattle.mdcc_replay.specs.Samples.{sample_of}
-use Rattle.mdcc_simulation.specs.Replay.{Output, output_of, replay_of}
+use Rattle.mdcc_command_replay.specs.Samples.{sample_of}
+use Rattle.mdcc_def_simulation.specs.Replay.{Output, output_of, replay_of}
 use Rattle.mdcc_command.specs.Commands.{output_for}
-use Rattle.mdcc_cli.specs.declared.words.Command.{Command}
-use Rattle.mdcc_cli.specs.declared.words.Command.TheVariants.{Replay, Sample}
+use Rattle.mdcc_command_words.specs.declared.words.Command.{Command}
+use Rattle.mdcc_command_words.specs.declared.words.Command.TheVariants.{Replay, Sample}
 
 of_replay : (left : Option (List ℕ)) (P : Output → Type 0) → IfSome left (λ input. P (output_of (replay_of input))) → IfSome (output_for (Some Replay) left) P
 of_replay None P h = tt

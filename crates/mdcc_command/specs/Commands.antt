@@ -1,9 +1,9 @@
 -- What the commands of the program write and answer.
 use Rattle.std.specs.Prelude.{Bool, List, None, Option, Some, false, option_map, true, ℕ, ◌≡◌}
-use Rattle.mdcc_cli.specs.declared.words.Command.{Command}
-use Rattle.mdcc_cli.specs.declared.words.Command.TheVariants.{Ask, Audit, Cluster, Dump, Node, Replay, Sample}
-use Rattle.mdcc_replay.specs.Samples.{sample_of}
-use Rattle.mdcc_simulation.specs.Replay.{Output, output_of, replay_of}
+use Rattle.mdcc_command_words.specs.declared.words.Command.{Command}
+use Rattle.mdcc_command_words.specs.declared.words.Command.TheVariants.{Ask, Audit, Cluster, Dump, Node, Replay, Sample}
+use Rattle.mdcc_command_replay.specs.Samples.{sample_of}
+use Rattle.mdcc_def_simulation.specs.Replay.{Output, output_of, replay_of}
 
 -- what is written and answered, where it is known: that of `replay` where its input is
 abbrev pub output_for : Option Command → Option (List ℕ) → Option Output

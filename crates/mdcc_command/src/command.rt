@@ -4,35 +4,35 @@ ghost use Rattle.std.specs.Bool.{OnFalse, OnTrue};
 ghost use Rattle.std.specs.Io.KnownBytes.{Appends, IsAtEnd};
 ghost use Rattle.std.specs.String.{string_bytes};
 ghost use Rattle.mdcc_log_file.specs.Both.{RoseAtOne};
-ghost use Rattle.mdcc_audit_command.specs.Commands.{AuditEndsByLogs, DoesAudit};
+ghost use Rattle.mdcc_command_audit.specs.Commands.{AuditEndsByLogs, DoesAudit};
 ghost use Rattle.mdcc_base.specs.Causes.{Rose};
-ghost use Rattle.mdcc_check_command.specs.Checks.{DoesCheck};
-ghost use Rattle.mdcc_cli.specs.Commands.{IsCommand, command_of};
-ghost use Rattle.mdcc_ask.specs.Commands.{AskCompletes, DoesAsk};
-ghost use Rattle.mdcc_cli.specs.declared.question.Question.{Question as AQuestion};
+ghost use Rattle.mdcc_command_check.specs.Checks.{DoesCheck};
+ghost use Rattle.mdcc_command_words.specs.Commands.{IsCommand, command_of};
+ghost use Rattle.mdcc_command_ask.specs.Commands.{AskCompletes, DoesAsk};
+ghost use Rattle.mdcc_command_words.specs.declared.question.Question.{Question as AQuestion};
 ghost use Rattle.mdcc_command.specs.Commands.{AreUntouched, has_disks, has_link, output_for, reads, replays};
-ghost use Rattle.mdcc_dump.specs.Commands.{DoesDump, DumpCompletes, DumpEndsByLog};
-ghost use Rattle.mdcc_endings.specs.Completions.{IsStill};
+ghost use Rattle.mdcc_command_dump.specs.Commands.{DoesDump, DumpCompletes, DumpEndsByLog};
+ghost use Rattle.mdcc_command_endings.specs.Completions.{IsStill};
 ghost use Rattle.mdcc_command.specs.Prints.{PrintsTruth};
 ghost use Rattle.mdcc_command.specs.Statuses.{is_program_status};
-ghost use Rattle.mdcc_headline.specs.Headline.{ReplayTellsTruth};
-ghost use Rattle.mdcc_replay.specs.Runs.{is_own, is_status, own_line};
-ghost use Rattle.mdcc_replay.specs.Writing.{Front, Tells};
-ghost use Rattle.mdcc_servers.specs.Commands.{AreAlike, DoesCluster, DoesNode};
-ghost use Rattle.mdcc_servers.specs.Completions.{ClusterCompletes, ClusterEndsByLogs, NodeCompletes, NodeEndsByLog};
+ghost use Rattle.mdcc_theorem_headline.specs.Headline.{ReplayTellsTruth};
+ghost use Rattle.mdcc_command_replay.specs.Runs.{is_own_status, is_status, own_line};
+ghost use Rattle.mdcc_command_replay.specs.Writing.{Front, Tells};
+ghost use Rattle.mdcc_command_serve.specs.Commands.{AreToldAlike, DoesCluster, DoesNode};
+ghost use Rattle.mdcc_command_serve.specs.Completions.{ClusterCompletes, ClusterEndsByLogs, NodeCompletes, NodeEndsByLog};
 
 use crate::simulation::Replayed;
-use mdcc_ask::run_ask;
-use mdcc_audit_command::run_audit;
 use mdcc_base::{Sink, Source};
-use mdcc_check_command::run_check;
-use mdcc_cli::{Command, command_of};
+use mdcc_command_ask::run_ask;
+use mdcc_command_audit::run_audit;
+use mdcc_command_check::run_check;
+use mdcc_command_dump::run_dump;
+use mdcc_command_replay::{end, refuse_words, run_replay, run_sample};
+use mdcc_command_serve::{run_cluster, run_node};
+use mdcc_command_words::{Command, command_of};
 use mdcc_disks::Disks;
-use mdcc_dump::run_dump;
-use mdcc_headline::headline;
 use mdcc_link::Link;
-use mdcc_replay::{end, refuse_words, run_replay, run_sample};
-use mdcc_servers::{run_cluster, run_node};
+use mdcc_theorem_headline::headline;
 use std::alloc::Global;
 
 // Does what a command asks for.
@@ -46,7 +46,7 @@ fn run_command<S: Source, O: Sink, E: Sink, D: Disks, L: Link>(
     link: &mut L,
 ) -> u8
     requires command { IfSome command IsCommand }
-    requires alike { AreAlike D.disk disks.old }
+    requires alike { AreToldAlike D.disk disks.old }
 
     ensures prints { command ≡ Some Command.Replay
         → IfSome (S.left source.old) (λ input. PrintsTruth input result (O.held out.old) (O.held out.new)) }
@@ -98,7 +98,7 @@ fn run_command<S: Source, O: Sink, E: Sink, D: Disks, L: Link>(
     ensures status { IsTrue (is_program_status result) }
     ensures replayed { replays (command) ≡ true → IsTrue (is_status result) }
     ensures whole { IfSome (output_for (command) (S.left source.old)) (λ output.
-        OnFalse (is_own result) ((result ≡ output.status) × Appends (O.held out.old) (O.held out.new) output.text)) }
+        OnFalse (is_own_status result) ((result ≡ output.status) × Appends (O.held out.old) (O.held out.new) output.text)) }
     ensures end { command ≡ Some Command.Replay → result ≡ 0 → IsAtEnd (S.left source.new) }
 
     ensures front { IfSome (output_for (command) (S.left source.old)) (λ output.
@@ -116,8 +116,8 @@ fn run_command<S: Source, O: Sink, E: Sink, D: Disks, L: Link>(
     ensures link { result ≡ 8 → Rose (L.faults link.old) (L.faults link.new) }
 
     ensures quiet { result ≡ 0 → Appends (E.held err.old) (E.held err.new) [] }
-    ensures own { OnTrue (is_own result) (Tells (E.held err.old) (E.held err.new) (E.faults err.old) (E.faults err.new) (own_line result)) }
-    ensures line { IfSome (output_for (command) (S.left source.old)) (λ output. OnFalse (is_own result)
+    ensures own { OnTrue (is_own_status result) (Tells (E.held err.old) (E.held err.new) (E.faults err.old) (E.faults err.new) (own_line result)) }
+    ensures line { IfSome (output_for (command) (S.left source.old)) (λ output. OnFalse (is_own_status result)
         (Tells (E.held err.old) (E.held err.new) (E.faults err.old) (E.faults err.new) output.error)) }
 
     ensures unread { reads (command) ≡ false → source.new ≡ source.old }
@@ -167,7 +167,7 @@ pub fn run<S: Source, O: Sink, E: Sink, D: Disks, L: Link>(
     disks: &mut D,
     link: &mut L,
 ) -> u8
-    requires { AreAlike D.disk disks.old }
+    requires { AreToldAlike D.disk disks.old }
 
     // What `replay` writes is the report of the input: all of it at statuses 0, 4 and 11, a front of it at 6 and 10, nothing at 3
     // and 5. It tells the truth of a run in which the committed transactions, each whole and in the order in which they were
@@ -241,7 +241,7 @@ pub fn run<S: Source, O: Sink, E: Sink, D: Disks, L: Link>(
     ensures status { IsTrue (is_program_status result) }
     ensures replayed { replays (command_of (map string_bytes words.now)) ≡ true → IsTrue (is_status result) }
     ensures whole { IfSome (output_for (command_of (map string_bytes words.now)) (S.left source.old)) (λ output.
-        OnFalse (is_own result) ((result ≡ output.status) × Appends (O.held out.old) (O.held out.new) output.text)) }
+        OnFalse (is_own_status result) ((result ≡ output.status) × Appends (O.held out.old) (O.held out.new) output.text)) }
     ensures end { command_of (map string_bytes words.now) ≡ Some Command.Replay → result ≡ 0 → IsAtEnd (S.left source.new) }
 
     // At each status a front of it was written, and nothing at 2, 3 and 5.
@@ -265,8 +265,8 @@ pub fn run<S: Source, O: Sink, E: Sink, D: Disks, L: Link>(
 
     // The line on the error stream.
     ensures quiet { result ≡ 0 → Appends (E.held err.old) (E.held err.new) [] }
-    ensures own { OnTrue (is_own result) (Tells (E.held err.old) (E.held err.new) (E.faults err.old) (E.faults err.new) (own_line result)) }
-    ensures line { IfSome (output_for (command_of (map string_bytes words.now)) (S.left source.old)) (λ output. OnFalse (is_own result)
+    ensures own { OnTrue (is_own_status result) (Tells (E.held err.old) (E.held err.new) (E.faults err.old) (E.faults err.new) (own_line result)) }
+    ensures line { IfSome (output_for (command_of (map string_bytes words.now)) (S.left source.old)) (λ output. OnFalse (is_own_status result)
         (Tells (E.held err.old) (E.held err.new) (E.faults err.old) (E.faults err.new) output.error)) }
 
     // `sample` reads nothing; no command but those that serve, `dump` and `audit` uses disks, and none but those that serve and `ask` the link.

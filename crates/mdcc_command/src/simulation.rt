@@ -1,8 +1,8 @@
 //! The world of nodes, as what the events of a schedule happen to.
 use mdcc_base::{HeapList, Memory};
-use mdcc_language::{Event, EventFault, Line};
+use mdcc_command_replay::Simulation;
+use mdcc_def_language::{Event, EventFault, Line};
 use mdcc_option::Cluster;
-use mdcc_replay::Simulation;
 use mdcc_world::World;
 use std::alloc::Global;
 

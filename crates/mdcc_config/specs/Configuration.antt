@@ -20,7 +20,7 @@ use Rattle.mdcc_config.specs.declared.fields.Fields.{Fields}
 use Rattle.mdcc_config.specs.declared.settings.Settings.{Settings}
 use Rattle.mdcc_config.specs.declared.config.Config.{Config}
 use Rattle.mdcc_config.specs.Names.{name_text, wrong_name}
-use Rattle.mdcc_config.specs.Readings.{natural, pair, host, limit, Pair}
+use Rattle.mdcc_config.specs.Readings.{natural, pair, host, limit, BoundPair}
 
 abbrev pub Read : Type 0 → Type 0
 Read A = Result A ConfigFault
@@ -67,8 +67,8 @@ abbrev pub list_as : {A : Type 0} → (Data → Option A) → MemberName → Dat
 list_as read name d = member_as as_array name d >>= λ items. each_item read name [] items
 
 -- the cells of a node where no member says them
-abbrev pub default_cells : ℕ
-default_cells = 1048576
+abbrev pub cells_by_default : ℕ
+cells_by_default = 1048576
 
 -- and how many milliseconds a receive waits at most
 abbrev pub default_wait : ℕ
@@ -87,7 +87,7 @@ fields_of d = (do
   bounds ← list_as pair Member.Bounds d
   hosts ← list_as host Member.Hosts d
   port ← member_as natural Member.Port d
-  cells ← given_or (Some default_cells) natural Member.Cells (get (name_text Member.Cells) d)
+  cells ← given_or (Some cells_by_default) natural Member.Cells (get (name_text Member.Cells) d)
   limit ← given_or (Some FastLimit.Safe) limit Member.Limit (get (name_text Member.Limit) d)
   wait ← given_or (Some default_wait) natural Member.Wait (get (name_text Member.Wait) d)
   checkpoint ← given_or (Some default_checkpoint) natural Member.Checkpoint (get (name_text Member.Checkpoint) d)
@@ -112,7 +112,7 @@ number_in low high name None = Err (Fault.Range name)
 number_in low high name (Some n) = if nat_le low n && nat_le n high then Ok n else Err (Fault.Range name)
 
 -- each pair of a list, behind those found
-abbrev pub each_pair : List Pair → List (Option Pair) → Read (List Pair)
+abbrev pub each_pair : List BoundPair → List (Option BoundPair) → Read (List BoundPair)
 each_pair found [] = Ok found
 each_pair found (one ∷ more) = ok_or one (Fault.Range Member.Bounds) >>= λ bounds. each_pair (found ++ bounds ∷ []) more
 

@@ -27,12 +27,12 @@ abbrev pub required : List MemberName
 required = Centres ∷ Classic ∷ Fast ∷ Gamma ∷ Bounds ∷ Hosts ∷ Port ∷ []
 
 -- those that may be there
-abbrev pub known : List MemberName
-known = Centres ∷ Classic ∷ Fast ∷ Gamma ∷ Bounds ∷ Hosts ∷ Port ∷ Cells ∷ Limit ∷ Wait ∷ Checkpoint ∷ []
+abbrev pub known_members : List MemberName
+known_members = Centres ∷ Classic ∷ Fast ∷ Gamma ∷ Bounds ∷ Hosts ∷ Port ∷ Cells ∷ Limit ∷ Wait ∷ Checkpoint ∷ []
 
 -- whether a member of this name may be there
 abbrev pub is_known : List ℕ → Bool
-is_known name = list_any (λ one. bytes_eq (name_text one) name) known
+is_known name = list_any (λ one. bytes_eq (name_text one) name) known_members
 
 -- whether a member is missing
 abbrev pub is_missing : Members → MemberName → Bool

@@ -30,15 +30,15 @@ integer d = integer_by (option_and_then as_i64 (as_number d)) (option_and_then a
 
 -- ---- the entries of lists
 
-abbrev pub Pair : Type 0
-Pair = ℤ × ℤ
+abbrev pub BoundPair : Type 0
+BoundPair = ℤ × ℤ
 
 -- two such numbers
-abbrev pub pair_in : Items → Option (Option Pair)
+abbrev pub pair_in : Items → Option (Option BoundPair)
 pair_in (item low (item high no_items)) = option_and_then (λ a. option_map (option_zip a) (integer high)) (integer low)
 pair_in _ = None
 
-abbrev pub pair : Data → Option (Option Pair)
+abbrev pub pair : Data → Option (Option BoundPair)
 pair d = option_and_then pair_in (as_array d)
 
 -- four numbers below 256 without leading zeros, with dots between them

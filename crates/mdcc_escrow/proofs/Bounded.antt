@@ -5,7 +5,7 @@ use Rattle.std.proofs.lemmas.Bool.Decides.{nat_tests}
 use Rattle.std.proofs.lemmas.Int.{ints}
 use Rattle.std.proofs.lemmas.List.Elements.{All-cons, All-head, All-nil, All-tail}
 use Rattle.mdcc_option.specs.OneCopy.{amount_at}
-use Rattle.mdcc_protocol.specs.Marks.{Amounts}
+use Rattle.mdcc_def_protocol.specs.Marks.{Amounts}
 use Rattle.mdcc_escrow.specs.Sums.{AreBoundedSums, IsBoundedSum}
 use Rattle.mdcc_escrow.specs.Weights.{with_amount, sums_with}
 

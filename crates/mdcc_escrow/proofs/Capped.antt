@@ -13,9 +13,9 @@ use Rattle.mdcc_option.specs.declared.cluster.Cluster.{Cluster}
 use Rattle.mdcc_option.specs.declared.cluster.FastLimit.{FastLimit}
 use Rattle.mdcc_option.specs.declared.items.Item.{Item}
 use Rattle.mdcc_option.specs.declared.items.Update.{Update}
-use Rattle.mdcc_protocol.specs.Fit.{Quantity, capped, capped_sum, delta_count, exact_fit, fast_fit, first_number, is_past_limit, is_past_room, limit_of, parts_of, quantities_of, quantity_at, quantity_of, share_of}
-use Rattle.mdcc_protocol.specs.declared.fit.Load.{Load}
-use Rattle.mdcc_protocol.proofs.EnoughPromises.{parts-classic, parts-within}
+use Rattle.mdcc_def_protocol.specs.Fit.{Quantity, capped, capped_sum, delta_count, exact_fit, fast_fit, first_number, is_past_limit, is_past_room, limit_of, parts_of, quantities_of, quantity_at, quantity_of, share_of}
+use Rattle.mdcc_def_protocol.specs.declared.fit.Load.{Load}
+use Rattle.mdcc_def_protocol.proofs.EnoughPromises.{parts-classic, parts-within}
 use Rattle.mdcc_escrow.specs.Capped.{AreDeclared, IsShort}
 
 -- ---- numbers

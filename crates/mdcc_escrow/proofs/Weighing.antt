@@ -8,9 +8,9 @@ use Rattle.mdcc_base.specs.declared.identifiers.TxId.{TxId}
 use Rattle.mdcc_option.specs.OneCopy.{amount_at}
 use Rattle.mdcc_option.specs.declared.items.Update.{Update}
 use Rattle.mdcc_struct.specs.Maps.{TxMap}
-use Rattle.mdcc_protocol.specs.Fit.{amounts_in, capped, capped_sum, decrease, has_tx, increase, load_of}
-use Rattle.mdcc_protocol.specs.Marks.{is_write}
-use Rattle.mdcc_protocol.specs.declared.fit.Load.{Load}
+use Rattle.mdcc_def_protocol.specs.Fit.{amounts_in, capped, capped_sum, decrease, has_tx, increase, load_of}
+use Rattle.mdcc_def_protocol.specs.Marks.{is_write}
+use Rattle.mdcc_def_protocol.specs.declared.fit.Load.{Load}
 use Rattle.mdcc_escrow.specs.Weights.{with_amount, counted, no_load, with_live}
 
 -- ---- one sum

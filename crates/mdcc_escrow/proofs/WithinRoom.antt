@@ -8,8 +8,8 @@ use Rattle.std.specs.List.{list_all, range_with_len}
 use Rattle.mdcc_option.specs.Bounds.{is_bound}
 use Rattle.mdcc_option.specs.declared.cluster.Cluster.{Cluster}
 use Rattle.mdcc_option.specs.declared.items.Item.{Item}
-use Rattle.mdcc_protocol.specs.Fit.{Quantity, are_within_room, capped, decreases_at, increases_at, is_past_room, quantities_taken}
-use Rattle.mdcc_protocol.specs.declared.fit.Load.{Load}
+use Rattle.mdcc_def_protocol.specs.Fit.{Quantity, are_within_room, capped, decreases_at, increases_at, is_past_room, quantities_taken}
+use Rattle.mdcc_def_protocol.specs.declared.fit.Load.{Load}
 use Rattle.mdcc_escrow.specs.Capped.{AreDeclared, IsShort}
 use Rattle.mdcc_escrow.proofs.Capped.{bound_at, room-capped, short_at, short_room, sum-capped}
 

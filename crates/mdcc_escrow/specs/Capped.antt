@@ -5,8 +5,8 @@ use Rattle.mdcc_option.specs.Bounds.{IsSchema}
 use Rattle.mdcc_option.specs.declared.cluster.Cluster.{Cluster}
 use Rattle.mdcc_option.specs.declared.items.Item.{Item}
 use Rattle.mdcc_option.specs.declared.items.Update.{Update}
-use Rattle.mdcc_protocol.specs.Fit.{capped, exact_fit, fast_fit}
-use Rattle.mdcc_protocol.specs.declared.fit.Load.{Load}
+use Rattle.mdcc_def_protocol.specs.Fit.{capped, exact_fit, fast_fit}
+use Rattle.mdcc_def_protocol.specs.declared.fit.Load.{Load}
 
 -- a number of 64 bits with its sign
 pub record IsShort (value : ℤ) : Type 0 where

@@ -5,9 +5,9 @@ use Rattle.mdcc_option.specs.declared.cluster.Cluster.{Cluster}
 use Rattle.mdcc_option.specs.declared.items.Item.{Item}
 use Rattle.mdcc_option.specs.declared.items.Update.{Update}
 use Rattle.mdcc_struct.specs.Maps.{TxMap}
-use Rattle.mdcc_protocol.specs.Fit.{capped, exact_fit, fast_fit, load_of}
-use Rattle.mdcc_protocol.specs.declared.fit.Fit.{Fit}
-use Rattle.mdcc_protocol.specs.declared.fit.Load.{Load}
+use Rattle.mdcc_def_protocol.specs.Fit.{capped, exact_fit, fast_fit, load_of}
+use Rattle.mdcc_def_protocol.specs.declared.fit.Fit.{Fit}
+use Rattle.mdcc_def_protocol.specs.declared.fit.Load.{Load}
 use Rattle.mdcc_escrow.specs.Sums.{IsBoundedLoad}
 use Rattle.mdcc_escrow.specs.Weights.{no_load, with_live}
 

@@ -1,6 +1,6 @@
 -- Which loads a fit takes.
 use Rattle.std.specs.Prelude.{All, List, pos, ℤ, ◌^◌, ◌≤ℤ◌}
-use Rattle.mdcc_protocol.specs.declared.fit.Load.{Load}
+use Rattle.mdcc_def_protocol.specs.declared.fit.Load.{Load}
 
 -- from 0 to 2^96
 pub record IsBoundedSum (sum : ℤ) : Type 0 where

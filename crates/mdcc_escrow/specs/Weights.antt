@@ -3,9 +3,9 @@ use Rattle.std.specs.Prelude.{Bool, List, [], get_or, if◌then◌else◌, min, 
 use Rattle.mdcc_base.specs.declared.identifiers.TxId.{TxId}
 use Rattle.mdcc_option.specs.OneCopy.{amount_at}
 use Rattle.mdcc_option.specs.declared.items.Update.{Update}
-use Rattle.mdcc_protocol.specs.Fit.{amounts_in, capped_sum, decrease, has_tx, increase}
-use Rattle.mdcc_protocol.specs.Marks.{Amounts, is_write}
-use Rattle.mdcc_protocol.specs.declared.fit.Load.{Load}
+use Rattle.mdcc_def_protocol.specs.Fit.{amounts_in, capped_sum, decrease, has_tx, increase}
+use Rattle.mdcc_def_protocol.specs.Marks.{Amounts, is_write}
+use Rattle.mdcc_def_protocol.specs.declared.fit.Load.{Load}
 
 -- one more where the test holds, up to 2^32 - 1
 abbrev pub counted : Bool → ℕ → ℕ

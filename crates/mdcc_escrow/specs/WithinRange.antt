@@ -1,6 +1,6 @@
 -- How large the numbers of a quantity are.
 use Rattle.std.specs.Prelude.{neg_ℤ, pos, ◌^◌, ◌≤ℤ◌}
-use Rattle.mdcc_protocol.specs.Fit.{Quantity}
+use Rattle.mdcc_def_protocol.specs.Fit.{Quantity}
 
 -- the sum is from 0 to 2^96, the amount from 0 to 2^63, and the room at most 2^64 in magnitude
 pub record IsWithinRange (q : Quantity) : Type 0 where

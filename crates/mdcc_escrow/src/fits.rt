@@ -1,8 +1,8 @@
 //! The two fits: that of an acceptor at the fast ballot, and that of a leader.
 ghost use Rattle.std.specs.Prelude.{◌≡◌, Some};
-ghost use Rattle.mdcc_protocol.specs.declared.fit.Load.{Load as ALoad};
+ghost use Rattle.mdcc_def_protocol.specs.declared.fit.Load.{Load as ALoad};
 ghost use Rattle.std.specs.Option.{option_copied};
-ghost use Rattle.mdcc_protocol.specs.Fit.{capped, exact_fit, fast_fit, fit_in_room, fit_in_share, limit_of};
+ghost use Rattle.mdcc_def_protocol.specs.Fit.{capped, exact_fit, fast_fit, fit_in_room, fit_in_share, limit_of};
 ghost use Rattle.mdcc_escrow.specs.Sums.{IsBoundedLoad};
 
 use crate::declared::are_declared;

@@ -13,7 +13,7 @@ pub mod taken;
 
 pub use fits::{exact_fit, fast_fit};
 pub use load::{NO_LOAD, with_live};
-pub use mdcc_protocol::{Fit, Load};
+pub use mdcc_def_protocol::{Fit, Load};
 pub use quantity::parts_of;
 pub use room::{accept_room, reject_room};
 pub use taken::are_within_room;

@@ -3,8 +3,8 @@ ghost use Rattle.std.specs.Prelude.{◌≡◌, ◌++◌, ◌∷◌, []};
 ghost use Rattle.mdcc_escrow.specs.Sums.{IsBoundedLoad};
 ghost use Rattle.mdcc_escrow.specs.Weights.{with_amount, counted, sums_with, with_live};
 ghost use Rattle.mdcc_option.specs.declared.items.Update.{Update as Live};
-ghost use Rattle.mdcc_protocol.specs.Fit.{amounts_in, capped, decrease, has_tx, increase, load_of};
-ghost use Rattle.mdcc_protocol.specs.Marks.{is_write};
+ghost use Rattle.mdcc_def_protocol.specs.Fit.{amounts_in, capped, decrease, has_tx, increase, load_of};
+ghost use Rattle.mdcc_def_protocol.specs.Marks.{is_write};
 ghost use Rattle.mdcc_struct.specs.Maps.{TxMap};
 
 use crate::Load;

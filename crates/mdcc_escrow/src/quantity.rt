@@ -1,7 +1,7 @@
 //! Quantities that an add changes: the number of adds on one version, and attributes.
 ghost use Rattle.std.specs.Prelude.{◌≡◌, ◌+◌, ◌-◌, ◌^◌, ◌≤◌, pos, neg_ℤ, ◌+ℤ◌, ◌-ℤ◌, ◌*ℤ◌, ◌≤ℤ◌, get_or, length, nat_abs};
 ghost use Rattle.mdcc_base.specs.AreQuorums.{AreQuorums};
-ghost use Rattle.mdcc_protocol.specs.Fit.{delta_count, quantity_of, quantity_at, quantities_of, is_past_room, is_past_limit, first_number, parts_of, share_of};
+ghost use Rattle.mdcc_def_protocol.specs.Fit.{delta_count, quantity_of, quantity_at, quantities_of, is_past_room, is_past_limit, first_number, parts_of, share_of};
 ghost use Rattle.mdcc_escrow.specs.Sums.{AreBoundedSums, IsBoundedLoad};
 
 use crate::Load;
@@ -21,7 +21,7 @@ pub(crate) struct Quantity {
 }
 
 impl Model for Quantity {
-    ghost use Rattle.mdcc_protocol.specs.Fit.{Quantity as Measured};
+    ghost use Rattle.mdcc_def_protocol.specs.Fit.{Quantity as Measured};
     ghost use Rattle.mdcc_escrow.specs.WithinRange.{IsWithinRange};
 
     ghost Value = { Measured };

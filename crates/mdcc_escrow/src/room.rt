@@ -1,6 +1,6 @@
 //! How many marks an instance takes at the fast ballot, and a structure at a classic one.
 ghost use Rattle.std.specs.Prelude.{◌≡◌};
-ghost use Rattle.mdcc_protocol.specs.Structures.{accept_room, reject_room};
+ghost use Rattle.mdcc_def_protocol.specs.Structures.{accept_room, reject_room};
 
 use mdcc_option::Update;
 

@@ -2,8 +2,8 @@
 ghost use Rattle.std.specs.Prelude.{◌≡◌, length, map, not};
 ghost use Rattle.std.specs.List.{list_all, range_with_len};
 ghost use Rattle.std.specs.Option.{option_copied};
-ghost use Rattle.mdcc_protocol.specs.declared.fit.Load.{Load as ALoad};
-ghost use Rattle.mdcc_protocol.specs.Fit.{are_within_room, capped, decreases_at, increases_at, is_past_room};
+ghost use Rattle.mdcc_def_protocol.specs.declared.fit.Load.{Load as ALoad};
+ghost use Rattle.mdcc_def_protocol.specs.Fit.{are_within_room, capped, decreases_at, increases_at, is_past_room};
 ghost use Rattle.mdcc_escrow.specs.Sums.{IsBoundedLoad};
 
 use crate::Load;

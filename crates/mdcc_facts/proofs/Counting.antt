@@ -23,9 +23,9 @@ use Rattle.mdcc_struct.specs.declared.options.Options.{Options}
 use Rattle.mdcc_facts.specs.Adding.{is_voted_before}
 use Rattle.mdcc_facts.specs.Listed.{are_voted_once}
 use Rattle.mdcc_facts.proofs.Gathered.{reverse-next}
-use Rattle.mdcc_protocol.specs.Facts.{marks_voted, votes_of}
-use Rattle.mdcc_protocol.specs.Stores.{count_voted}
-use Rattle.mdcc_messages.specs.declared.facts.Fact.{Fact}
+use Rattle.mdcc_def_protocol.specs.Facts.{marks_voted, votes_of}
+use Rattle.mdcc_def_protocol.specs.Stores.{count_voted}
+use Rattle.mdcc_def_messages.specs.declared.facts.Fact.{Fact}
 
 abbrev pub bit : Bool → ℕ
 bit test = if test then 1 else 0

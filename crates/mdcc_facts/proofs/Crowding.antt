@@ -10,9 +10,9 @@ use Rattle.mdcc_base.specs.declared.key.Key.{Key}
 use Rattle.mdcc_option.proofs.Equal.{Decides-key}
 use Rattle.mdcc_option.specs.declared.choices.Choice.{Choice}
 use Rattle.mdcc_option.specs.declared.choices.Outcome.{Outcome}
-use Rattle.mdcc_protocol.specs.Facts.{current_of, delta_given, deltas_from, executed_of, version_from, version_given}
-use Rattle.mdcc_protocol.specs.News.{is_crowding, keys_in}
-use Rattle.mdcc_messages.specs.declared.facts.Fact.{Fact}
+use Rattle.mdcc_def_protocol.specs.Facts.{current_of, delta_given, deltas_from, executed_of, version_from, version_given}
+use Rattle.mdcc_def_protocol.specs.News.{is_crowding, keys_in}
+use Rattle.mdcc_def_messages.specs.declared.facts.Fact.{Fact}
 use Rattle.mdcc_facts.specs.Adding.{MayBeAdded}
 use Rattle.mdcc_facts.specs.Listed.{AreListed}
 

@@ -12,9 +12,9 @@ use Rattle.mdcc_option.specs.declared.choices.Mark.{Mark}
 use Rattle.mdcc_option.specs.declared.items.Update.{Update}
 use Rattle.mdcc_struct.specs.Maps.{TxMap, are_ascending, union, value_of}
 use Rattle.mdcc_struct.proofs.Walks.{ascending-union, union-none}
-use Rattle.mdcc_protocol.specs.Facts.{last_ballot, marks_voted, votes_of, write_sets_from, write_sets_of}
-use Rattle.mdcc_protocol.specs.Plain.{plain_live_and_void, plain_live_from, plain_report_of}
-use Rattle.mdcc_messages.specs.declared.facts.Fact.{Fact}
+use Rattle.mdcc_def_protocol.specs.Facts.{last_ballot, marks_voted, votes_of, write_sets_from, write_sets_of}
+use Rattle.mdcc_def_protocol.specs.Plain.{plain_live_and_void, plain_live_from, plain_report_of}
+use Rattle.mdcc_def_messages.specs.declared.facts.Fact.{Fact}
 use Rattle.mdcc_facts.specs.Walks.{is_next_tx, least_from, next_tx}
 use Rattle.mdcc_facts.proofs.Walking.{least_union, value_union}
 

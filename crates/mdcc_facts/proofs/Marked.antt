@@ -6,7 +6,7 @@ use Rattle.mdcc_base.specs.TxId.{tx_eq}
 use Rattle.mdcc_base.specs.declared.identifiers.TxId.{TxId}
 use Rattle.mdcc_option.specs.declared.choices.Choice.{Choice}
 use Rattle.mdcc_option.specs.declared.choices.Mark.{Mark}
-use Rattle.mdcc_protocol.specs.Marks.{choice_in}
+use Rattle.mdcc_def_protocol.specs.Marks.{choice_in}
 use Rattle.mdcc_struct.specs.Maps.{TxMap, inserted, union, value_of, with_entry}
 use Rattle.mdcc_struct.specs.declared.options.Options.{Options}
 use Rattle.mdcc_facts.specs.Walks.{least_from, lower_passing}

@@ -10,10 +10,10 @@ use Rattle.mdcc_option.specs.declared.choices.Mark.{Mark}
 use Rattle.mdcc_struct.specs.Maps.{value_of}
 use Rattle.mdcc_struct.specs.declared.options.Options.{Options}
 use Rattle.mdcc_facts.specs.Past.{count_past, is_past_mark}
-use Rattle.mdcc_protocol.specs.Facts.{has_floor, is_finished, is_heard, votes_of}
-use Rattle.mdcc_protocol.specs.Stores.{count_voted}
-use Rattle.mdcc_protocol.proofs.Plain.{finished_none}
-use Rattle.mdcc_messages.specs.declared.facts.Fact.{Fact}
+use Rattle.mdcc_def_protocol.specs.Facts.{has_floor, is_finished, is_heard, votes_of}
+use Rattle.mdcc_def_protocol.specs.Stores.{count_voted}
+use Rattle.mdcc_def_protocol.proofs.Plain.{finished_none}
+use Rattle.mdcc_def_messages.specs.declared.facts.Fact.{Fact}
 
 module _ (facts : List Fact) (h : has_floor facts ≡ false) where
   pub past_plain : (key : Key) (version : ℕ) (ballot : Ballot) (tx : TxId)

@@ -12,7 +12,7 @@ use Rattle.mdcc_struct.proofs.Order.{tx_lt-trans, tx_lt-apart, tx_lt-not_back, t
 use Rattle.mdcc_struct.proofs.Ordered.{IsBelow, ascending-tail, ascending-below}
 use Rattle.mdcc_struct.proofs.Walks.{ascending-filter, drop-get}
 use Rattle.mdcc_struct.proofs.Values.{filter-value, value_of-union}
-use Rattle.mdcc_protocol.specs.Stores.{is_above}
+use Rattle.mdcc_def_protocol.specs.Stores.{is_above}
 use Rattle.mdcc_facts.specs.Walks.{each_kept, entry_list, is_lower, is_next_tx, least_from, lower_passing, next_tx, rest_of}
 
 -- ---- the least transaction of a union

@@ -5,7 +5,7 @@ use Rattle.std.proofs.lemmas.Bool.{cases_Bool}
 use Rattle.mdcc_base.specs.declared.identifiers.TxId.{TxId}
 use Rattle.mdcc_option.specs.declared.choices.Mark.{Mark}
 use Rattle.mdcc_struct.specs.declared.options.Options.{Options}
-use Rattle.mdcc_protocol.specs.Marks.{accepts_in, is_accept, rejects_in}
+use Rattle.mdcc_def_protocol.specs.Marks.{accepts_in, is_accept, rejects_in}
 use Rattle.mdcc_escrow.proofs.Weighing.{bit, counted-capped}
 use Rattle.mdcc_facts.specs.Weights.{with_mark}
 

@@ -2,12 +2,12 @@
 use Rattle.std.specs.List.{list_any}
 use Rattle.std.specs.Prelude.{◌≡◌, ◌≤◌, Bool, Err, List, Ok, Result, false, if◌then◌else◌, is_some, nat_lt, true, ℕ}
 use Rattle.mdcc_struct.specs.Maps.{value_of}
-use Rattle.mdcc_protocol.specs.Facts.{is_floor, is_heard, promised_through, votes_of}
-use Rattle.mdcc_protocol.specs.News.{is_crowding}
-use Rattle.mdcc_messages.specs.Lengths.{fact_length}
-use Rattle.mdcc_messages.specs.WellFormed.{IsWellFormedFact}
-use Rattle.mdcc_messages.specs.declared.facts.Fact.{Fact}
-use Rattle.mdcc_protocol.specs.declared.stores.StoreFault.{StoreFault}
+use Rattle.mdcc_def_protocol.specs.Facts.{is_floor, is_heard, promised_through, votes_of}
+use Rattle.mdcc_def_protocol.specs.News.{is_crowding}
+use Rattle.mdcc_def_messages.specs.Lengths.{fact_length}
+use Rattle.mdcc_def_messages.specs.WellFormed.{IsWellFormedFact}
+use Rattle.mdcc_def_messages.specs.declared.facts.Fact.{Fact}
+use Rattle.mdcc_def_protocol.specs.declared.stores.StoreFault.{StoreFault}
 
 -- ---- when it may be added
 

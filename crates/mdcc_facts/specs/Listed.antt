@@ -1,8 +1,8 @@
 -- How a store keeps facts in a list.
 use Rattle.std.specs.Prelude.{◌≡◌, ◌≤◌, Bool, List, [], false, length, not, reverse, true, ◌&&◌, ◌∷◌}
 use Rattle.mdcc_base.specs.declared.key.Key.{Key}
-use Rattle.mdcc_protocol.specs.Facts.{executed_of, has_floor}
-use Rattle.mdcc_messages.specs.declared.facts.Fact.{Fact}
+use Rattle.mdcc_def_protocol.specs.Facts.{executed_of, has_floor}
+use Rattle.mdcc_def_messages.specs.declared.facts.Fact.{Fact}
 use Rattle.mdcc_facts.specs.Adding.{is_voted_before}
 
 -- no mark was voted twice at its ballot

@@ -6,8 +6,8 @@ use Rattle.mdcc_base.specs.declared.identifiers.TxId.{TxId}
 use Rattle.mdcc_base.specs.declared.key.Key.{Key}
 use Rattle.mdcc_struct.specs.Maps.{value_of}
 use Rattle.mdcc_struct.specs.declared.options.Options.{Options}
-use Rattle.mdcc_protocol.specs.Facts.{is_finished, votes_of}
-use Rattle.mdcc_messages.specs.declared.facts.Fact.{Fact}
+use Rattle.mdcc_def_protocol.specs.Facts.{is_finished, votes_of}
+use Rattle.mdcc_def_messages.specs.declared.facts.Fact.{Fact}
 
 -- whether a transaction was voted in an instance at a ballot, or is finished
 abbrev pub is_past_mark : List Fact → Key → ℕ → Ballot → TxId → Bool

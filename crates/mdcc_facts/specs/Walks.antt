@@ -6,11 +6,11 @@ use Rattle.mdcc_option.specs.declared.items.Delta.{Delta}
 use Rattle.mdcc_option.specs.declared.items.Update.{Update}
 use Rattle.mdcc_struct.specs.Maps.{TxMap}
 use Rattle.mdcc_struct.specs.declared.options.Options.{Options}
-use Rattle.mdcc_protocol.specs.Facts.{is_heard}
-use Rattle.mdcc_protocol.specs.Plain.{plain_is_void}
-use Rattle.mdcc_protocol.specs.Marks.{Amounts}
-use Rattle.mdcc_protocol.specs.Stores.{is_above}
-use Rattle.mdcc_messages.specs.declared.facts.Fact.{Fact}
+use Rattle.mdcc_def_protocol.specs.Facts.{is_heard}
+use Rattle.mdcc_def_protocol.specs.Plain.{plain_is_void}
+use Rattle.mdcc_def_protocol.specs.Marks.{Amounts}
+use Rattle.mdcc_def_protocol.specs.Stores.{is_above}
+use Rattle.mdcc_def_messages.specs.declared.facts.Fact.{Fact}
 
 -- below the one that was found; each is where none was
 abbrev pub is_lower : Option TxId → TxId → Bool

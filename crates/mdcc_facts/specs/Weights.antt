@@ -2,7 +2,7 @@
 use Rattle.std.specs.Prelude.{not, ℕ}
 use Rattle.mdcc_base.specs.declared.identifiers.TxId.{TxId}
 use Rattle.mdcc_option.specs.declared.choices.Mark.{Mark}
-use Rattle.mdcc_protocol.specs.Marks.{is_accept}
+use Rattle.mdcc_def_protocol.specs.Marks.{is_accept}
 pub use Rattle.mdcc_escrow.specs.Weights.{counted}
 
 -- how many accept and how many reject, with one more mark

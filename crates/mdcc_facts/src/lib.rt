@@ -3,6 +3,6 @@
 
 pub mod store;
 
-pub use mdcc_messages::Fact;
-pub use mdcc_protocol::StoreFault;
+pub use mdcc_def_messages::Fact;
+pub use mdcc_def_protocol::StoreFault;
 pub use store::FactStore;

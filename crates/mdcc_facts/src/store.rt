@@ -1,18 +1,18 @@
 //! What a store of facts promises.
 ghost use Rattle.std.specs.Prelude.{◌≡◌, ◌+◌, ◌∷◌, ℕ, IfOk, IsTrue, List, OnErr, OnOk, true};
 ghost use Rattle.mdcc_base.specs.Unless.{GivesUnless};
-ghost use Rattle.mdcc_messages.specs.declared.facts.Fact.{Fact as AFact};
-ghost use Rattle.mdcc_protocol.specs.Facts.{base_of, choice_known, current_of, epoch_of, executed_of, is_finished, is_heard, is_settled, last_ballot, outcome_kept, promise_of, promised_through, shown_of, unresolved_of, vote_of};
-ghost use Rattle.mdcc_protocol.specs.News.{is_crowding};
-ghost use Rattle.mdcc_protocol.specs.Stores.{delta_of, ended_of, entries_at, load_at, mark_after, mark_below, unresolved_at};
+ghost use Rattle.mdcc_def_messages.specs.declared.facts.Fact.{Fact as AFact};
+ghost use Rattle.mdcc_def_protocol.specs.Facts.{base_of, choice_known, current_of, epoch_of, executed_of, is_finished, is_heard, is_settled, last_ballot, outcome_kept, promise_of, promised_through, shown_of, unresolved_of, vote_of};
+ghost use Rattle.mdcc_def_protocol.specs.News.{is_crowding};
+ghost use Rattle.mdcc_def_protocol.specs.Stores.{delta_of, ended_of, entries_at, load_at, mark_after, mark_below, unresolved_at};
 ghost use Rattle.mdcc_struct.specs.Maps.{txs_of, value_of};
 ghost use Rattle.mdcc_facts.specs.Adding.{MayBeAdded, add_result, is_store_memory};
 ghost use Rattle.mdcc_facts.specs.Past.{count_past};
 
 use mdcc_base::{Ballot, HeapList, Key, Memory, TxId};
-use mdcc_messages::Fact;
+use mdcc_def_messages::Fact;
+use mdcc_def_protocol::{Load, StoreFault};
 use mdcc_option::{Choice, Delta, Item, Mark, Outcome, Seen, WriteSet};
-use mdcc_protocol::{Load, StoreFault};
 use mdcc_struct::Options;
 use std::alloc::Global;
 

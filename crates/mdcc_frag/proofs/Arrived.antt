@@ -8,8 +8,8 @@ use Rattle.std.proofs.Math.Seq.{take-append_seam, drop-append-add}
 use Rattle.std.proofs.lemmas.List.{take-append-le, take-append-drop, drop-append-le, nil_from_length}
 use Rattle.std.proofs.lemmas.List.Sums.{sum_by-cons, sum_by-set}
 use Rattle.mdcc_frag.specs.declared.partial.Arrival.{Arrival}
-use Rattle.mdcc_frag.specs.Partial.{overwritten}
-use Rattle.mdcc_frag.specs.Arrivals.{placed, are_laid, in_order, absent, missing, bytes_missing}
+use Rattle.mdcc_frag.specs.Partial.{with_piece_bytes}
+use Rattle.mdcc_frag.specs.Arrivals.{pieces_placed, are_laid, are_contiguous, absent, missing, bytes_missing}
 
 -- ---- tests joined by &&
 
@@ -56,11 +56,11 @@ laid_more total (first ∷ others) arrival size laid within =
 
 pub placed_more : (total : ℕ) (arrivals : List Arrival) (arrival : Arrival) (pieces piece bytes : List ℕ) →
     are_laid total arrivals (length pieces) ≡ true → arrival.size ≡ length piece →
-    placed (arrivals ++ arrival ∷ []) (pieces ++ piece) bytes ≡ overwritten (1383 * arrival.index) piece (placed arrivals pieces bytes)
+    pieces_placed (arrivals ++ arrival ∷ []) (pieces ++ piece) bytes ≡ with_piece_bytes (1383 * arrival.index) piece (pieces_placed arrivals pieces bytes)
 placed_more total [] arrival pieces piece bytes laid size =
     let none : pieces ≡ [] = nil_from_length pieces (eqb-true (length pieces) 0 laid) in
     let whole : take arrival.size piece ≡ piece = grind (arith, common_steps, size) in
-    rw none (ap (λ p. overwritten (1383 * arrival.index) p bytes) whole)
+    rw none (ap (λ p. with_piece_bytes (1383 * arrival.index) p bytes) whole)
 placed_more total (first ∷ others) arrival pieces piece bytes laid size =
     let part = laid_first total first others (length pieces) laid in
     let there = part.there in
@@ -68,17 +68,17 @@ placed_more total (first ∷ others) arrival pieces piece bytes laid size =
     let behind : drop first.size (pieces ++ piece) ≡ drop first.size pieces ++ piece = drop-append-le first.size pieces piece there in
     let rest : are_laid total others (length (drop first.size pieces)) ≡ true =
     ap (are_laid total others) (length-drop first.size pieces) ∙ part.behind in
-    ap (λ p. placed (others ++ arrival ∷ []) p (overwritten (1383 * first.index) (take first.size (pieces ++ piece)) bytes)) behind
-    ∙ ap (λ p. placed (others ++ arrival ∷ []) (drop first.size pieces ++ piece) (overwritten (1383 * first.index) p bytes)) front
-    ∙ placed_more total others arrival (drop first.size pieces) piece (overwritten (1383 * first.index) (take first.size pieces) bytes) rest size
+    ap (λ p. pieces_placed (others ++ arrival ∷ []) p (with_piece_bytes (1383 * first.index) (take first.size (pieces ++ piece)) bytes)) behind
+    ∙ ap (λ p. pieces_placed (others ++ arrival ∷ []) (drop first.size pieces ++ piece) (with_piece_bytes (1383 * first.index) p bytes)) front
+    ∙ placed_more total others arrival (drop first.size pieces) piece (with_piece_bytes (1383 * first.index) (take first.size pieces) bytes) rest size
 
 -- ---- how long the message is
 
-length_over : (offset : ℕ) (piece bytes : List ℕ) → offset + length piece ≤ length bytes → length (overwritten offset piece bytes) ≡ length bytes
+length_over : (offset : ℕ) (piece bytes : List ℕ) → offset + length piece ≤ length bytes → length (with_piece_bytes offset piece bytes) ≡ length bytes
 length_over offset piece bytes within = grind (arith, common_steps, within)
 
 pub length_placed : (total : ℕ) (arrivals : List Arrival) (pieces bytes : List ℕ) → are_laid total arrivals (length pieces) ≡ true →
-    length bytes ≡ total → length (placed arrivals pieces bytes) ≡ total
+    length bytes ≡ total → length (pieces_placed arrivals pieces bytes) ≡ total
 length_placed total [] pieces bytes laid size = size
 length_placed total (first ∷ others) pieces bytes laid size =
     let part = laid_first total first others (length pieces) laid in
@@ -86,7 +86,7 @@ length_placed total (first ∷ others) pieces bytes laid size =
     let all : length (take first.size pieces) ≡ first.size = grind (arith, common_steps, there) in
     let rest : are_laid total others (length (drop first.size pieces)) ≡ true =
     ap (are_laid total others) (length-drop first.size pieces) ∙ part.behind in
-    length_placed total others (drop first.size pieces) (overwritten (1383 * first.index) (take first.size pieces) bytes) rest
+    length_placed total others (drop first.size pieces) (with_piece_bytes (1383 * first.index) (take first.size pieces) bytes) rest
     (length_over (1383 * first.index) (take first.size pieces) bytes (omega (arith, part.within)) ∙ size)
 
 -- ---- how many are missing
@@ -150,20 +150,20 @@ left_at total arrivals index arrival size within is laid =
 
 pub placed_at : (arrivals : List Arrival) (index : ℕ) (arrival : Arrival) (rest bytes : List ℕ) → index < length arrivals →
     arrival ≡ get_or arrivals index arrival →
-    placed (drop index arrivals) rest bytes
-    ≡ placed (drop (index + 1) arrivals) (drop arrival.size rest) (overwritten (1383 * arrival.index) (take arrival.size rest) bytes)
+    pieces_placed (drop index arrivals) rest bytes
+    ≡ pieces_placed (drop (index + 1) arrivals) (drop arrival.size rest) (with_piece_bytes (1383 * arrival.index) (take arrival.size rest) bytes)
 placed_at arrivals index arrival rest bytes within is =
-    ap (λ (left : List Arrival). placed left rest bytes) (split_at arrivals index arrival within is)
+    ap (λ (left : List Arrival). pieces_placed left rest bytes) (split_at arrivals index arrival within is)
 
 -- ---- pieces in order
 
 over_front : (front piece rest : List ℕ) (offset : ℕ) → offset ≡ length front →
-    overwritten offset piece (front ++ rest) ≡ (front ++ piece) ++ drop (length piece) rest
+    with_piece_bytes offset piece (front ++ rest) ≡ (front ++ piece) ++ drop (length piece) rest
 over_front front piece rest offset is =
     rw is (rw (take-append_seam front rest) (rw (drop-append-add front rest (length piece)) refl))
 
-pub placed_in_order : (total : ℕ) (arrivals : List Arrival) (pieces front rest : List ℕ) → in_order (length front) arrivals ≡ true →
-    are_laid total arrivals (length pieces) ≡ true → length rest ≡ length pieces → placed arrivals pieces (front ++ rest) ≡ front ++ pieces
+pub placed_in_order : (total : ℕ) (arrivals : List Arrival) (pieces front rest : List ℕ) → are_contiguous (length front) arrivals ≡ true →
+    are_laid total arrivals (length pieces) ≡ true → length rest ≡ length pieces → pieces_placed arrivals pieces (front ++ rest) ≡ front ++ pieces
 placed_in_order total [] pieces front rest ordered laid as_many =
     let none : length pieces ≡ 0 = eqb-true (length pieces) 0 laid in
     let empty : pieces ≡ [] = nil_from_length pieces none in
@@ -182,11 +182,11 @@ placed_in_order total (first ∷ others) pieces front rest ordered laid as_many 
     omega (arith, length-drop first.size rest, length-drop first.size pieces, as_many) in
     let laid_behind : are_laid total others (length (drop first.size pieces)) ≡ true =
     ap (are_laid total others) (length-drop first.size pieces) ∙ part.behind in
-    let over : overwritten (1383 * first.index) (take first.size pieces) (front ++ rest) ≡ (front ++ take first.size pieces) ++ drop first.size rest =
+    let over : with_piece_bytes (1383 * first.index) (take first.size pieces) (front ++ rest) ≡ (front ++ take first.size pieces) ++ drop first.size rest =
     over_front front (take first.size pieces) rest (1383 * first.index) offset
     ∙ ap (λ (n : ℕ). (front ++ take first.size pieces) ++ drop n rest) all in
-    ap (λ (b : List ℕ). placed others (drop first.size pieces) b) over
+    ap (λ (b : List ℕ). pieces_placed others (drop first.size pieces) b) over
     ∙ placed_in_order total others (drop first.size pieces) (front ++ take first.size pieces) (drop first.size rest)
-    (ap (λ (n : ℕ). in_order n others) (sym end) ∙ begins.1) laid_behind left
+    (ap (λ (n : ℕ). are_contiguous n others) (sym end) ∙ begins.1) laid_behind left
     ∙ append_assoc front (take first.size pieces) (drop first.size pieces)
     ∙ ap (λ (b : List ℕ). front ++ b) (take-append-drop first.size pieces)

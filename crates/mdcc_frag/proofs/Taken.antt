@@ -6,11 +6,11 @@ use Rattle.mdcc_frag.specs.declared.partial.Arrival.{Arrival}
 use Rattle.mdcc_frag.specs.declared.partial.Partial.TheInside.{Inside}
 use Rattle.mdcc_frag.specs.Datagrams.{message_limit, count}
 use Rattle.mdcc_frag.specs.Reading.{piece_length}
-use Rattle.mdcc_frag.specs.Partial.{PartialMessage, overwritten, with_piece, is_held, is_whole}
-use Rattle.mdcc_frag.specs.Arrivals.{ArePieces, placed, are_laid, missing, bytes_missing, message_in}
+use Rattle.mdcc_frag.specs.Partial.{PartialMessage, with_piece_bytes, with_piece, is_piece_held, is_whole}
+use Rattle.mdcc_frag.specs.Arrivals.{ArePieces, pieces_placed, are_laid, missing, bytes_missing, message_of_pieces}
 use Rattle.mdcc_frag.proofs.Arrived.{laid_more, placed_more, length_placed, one_less, all_came, none_came, fewer_bytes, all_bytes, no_bytes}
 
-pub length_in : (p : Inside) → ArePieces p → length (message_in p).bytes ≡ p.total
+pub length_in : (p : Inside) → ArePieces p → length (message_of_pieces p).bytes ≡ p.total
 length_in p are = length_placed p.total p.arrivals.items p.pieces.items (replicate p.total 0) are.laid (length-replicate p.total 0)
 
 -- a message of which no piece came
@@ -36,12 +36,12 @@ pub record IsMissing (p : Inside) (index : ℕ) : Type 0 where
   pub fewer : missing (set p.held.items index true) + 1 ≡ missing p.held.items
   pub bytes : bytes_missing p.total (set p.held.items index true) + piece_length p.total index ≡ bytes_missing p.total p.held.items
 
-pub is_missing : (p : Inside) (m : PartialMessage) (index : ℕ) → ArePieces p → m ≡ message_in p → index < count (length m.bytes) →
-    is_held index m ≡ false → IsMissing p index
+pub is_missing : (p : Inside) (m : PartialMessage) (index : ℕ) → ArePieces p → m ≡ message_of_pieces p → index < count (length m.bytes) →
+    is_piece_held index m ≡ false → IsMissing p index
 is_missing p m index are same inside absent =
     let total : length m.bytes ≡ p.total = ap (λ (n : PartialMessage). length n.bytes) same ∙ length_in p are in
     let below : index < length p.held.items = rw are.flags (rw total at inside) in
-    let came = sym (ap (is_held index) same) ∙ absent in
+    let came = sym (ap (is_piece_held index) same) ∙ absent in
     record { within = below; fewer = one_less p.held.items index below came; bytes = fewer_bytes p.total index p.held.items below came }
 
 -- it lies in the message
@@ -49,8 +49,8 @@ pub size_within : (total index size : ℕ) → index < count total → size ≡ 
 size_within total index size inside is = omega (arith, inside, is)
 
 -- there is room in the message for its bytes
-pub room_for : (p : Inside) (m : PartialMessage) (index : ℕ) (piece : List ℕ) → ArePieces p → m ≡ message_in p → index < count (length m.bytes) →
-    is_held index m ≡ false → length piece ≡ piece_length (length m.bytes) index → length p.pieces.items + length piece ≤ p.total
+pub room_for : (p : Inside) (m : PartialMessage) (index : ℕ) (piece : List ℕ) → ArePieces p → m ≡ message_of_pieces p → index < count (length m.bytes) →
+    is_piece_held index m ≡ false → length piece ≡ piece_length (length m.bytes) index → length p.pieces.items + length piece ≤ p.total
 room_for p m index piece are same inside absent size =
     let there = is_missing p m index are same inside absent in
     let total : length m.bytes ≡ p.total = ap (λ (n : PartialMessage). length n.bytes) same ∙ length_in p are in
@@ -58,14 +58,14 @@ room_for p m index piece are same inside absent size =
     omega (arith, exact, there.bytes, are.bytes)
 
 -- the bytes with it
-pub bytes_with : (p : Inside) (m : PartialMessage) (arrival : Arrival) (piece : List ℕ) → ArePieces p → m ≡ message_in p →
+pub bytes_with : (p : Inside) (m : PartialMessage) (arrival : Arrival) (piece : List ℕ) → ArePieces p → m ≡ message_of_pieces p →
     arrival.size ≡ length piece →
-    placed (p.arrivals.items ++ arrival ∷ []) (p.pieces.items ++ piece) (replicate p.total 0) ≡ overwritten (1383 * arrival.index) piece m.bytes
+    pieces_placed (p.arrivals.items ++ arrival ∷ []) (p.pieces.items ++ piece) (replicate p.total 0) ≡ with_piece_bytes (1383 * arrival.index) piece m.bytes
 bytes_with p m arrival piece are same size =
     placed_more p.total p.arrivals.items arrival p.pieces.items piece (replicate p.total 0) are.laid size
-    ∙ sym (ap (λ (n : PartialMessage). overwritten (1383 * arrival.index) piece n.bytes) same)
+    ∙ sym (ap (λ (n : PartialMessage). with_piece_bytes (1383 * arrival.index) piece n.bytes) same)
 
-pub laid_with : (p : Inside) (m : PartialMessage) (arrival : Arrival) (piece : List ℕ) → ArePieces p → m ≡ message_in p →
+pub laid_with : (p : Inside) (m : PartialMessage) (arrival : Arrival) (piece : List ℕ) → ArePieces p → m ≡ message_of_pieces p →
     arrival.size ≡ length piece → 1383 * arrival.index + length piece ≤ length m.bytes →
     are_laid p.total (p.arrivals.items ++ arrival ∷ []) (length (p.pieces.items ++ piece)) ≡ true
 laid_with p m arrival piece are same size within =
@@ -76,7 +76,7 @@ laid_with p m arrival piece are same size within =
     ap (are_laid p.total (p.arrivals.items ++ arrival ∷ [])) all ∙ more
 
 -- all came where as many came as there are
-pub whole_by_count : (p : Inside) (m : PartialMessage) → ArePieces p → m ≡ message_in p →
+pub whole_by_count : (p : Inside) (m : PartialMessage) → ArePieces p → m ≡ message_of_pieces p →
     nat_eq (length p.arrivals.items) (length p.held.items) ≡ is_whole m
 whole_by_count p m are same =
     let came = are.came in
@@ -93,9 +93,9 @@ pub record IsWith (p q : Inside) (m : PartialMessage) (arrival : Arrival) (piece
   pub size : arrival.size ≡ length piece
   pub exact : length piece ≡ piece_length (length m.bytes) arrival.index
   pub inside : arrival.index < count (length m.bytes)
-  pub absent : is_held arrival.index m ≡ false
+  pub absent : is_piece_held arrival.index m ≡ false
 
-pub pieces_with : (p q : Inside) (m : PartialMessage) (arrival : Arrival) (piece : List ℕ) → ArePieces p → m ≡ message_in p →
+pub pieces_with : (p q : Inside) (m : PartialMessage) (arrival : Arrival) (piece : List ℕ) → ArePieces p → m ≡ message_of_pieces p →
     IsWith p q m arrival piece → ArePieces q
 pieces_with p q m arrival piece are same new =
     let there = is_missing p m arrival.index are same new.inside new.absent in
@@ -115,18 +115,18 @@ pieces_with p q m arrival piece are same new =
       bytes = omega (arith, less, exact, longer, there.bytes, are.bytes, new.total);
     }
 
-pub message_with : (p q : Inside) (m : PartialMessage) (arrival : Arrival) (piece : List ℕ) → ArePieces p → m ≡ message_in p →
-    IsWith p q m arrival piece → message_in q ≡ with_piece arrival.index piece m
+pub message_with : (p q : Inside) (m : PartialMessage) (arrival : Arrival) (piece : List ℕ) → ArePieces p → m ≡ message_of_pieces p →
+    IsWith p q m arrival piece → message_of_pieces q ≡ with_piece arrival.index piece m
 message_with p q m arrival piece are same new =
     let pack : List ℕ → List Bool → PartialMessage = λ bytes held. record { bytes = bytes; held = held } in
-    let bytes : placed q.arrivals.items q.pieces.items (replicate q.total 0) ≡ overwritten (1383 * arrival.index) piece m.bytes =
+    let bytes : pieces_placed q.arrivals.items q.pieces.items (replicate q.total 0) ≡ with_piece_bytes (1383 * arrival.index) piece m.bytes =
     rw new.total (rw new.arrivals (rw new.pieces (bytes_with p m arrival piece are same new.size))) in
     let held : q.held.items ≡ set m.held arrival.index true =
     new.held ∙ ap (λ (n : PartialMessage). set n.held arrival.index true) (sym same) in
-    ap (λ (b : List ℕ). pack b q.held.items) bytes ∙ ap (pack (overwritten (1383 * arrival.index) piece m.bytes)) held
+    ap (λ (b : List ℕ). pack b q.held.items) bytes ∙ ap (pack (with_piece_bytes (1383 * arrival.index) piece m.bytes)) held
 
 -- all bytes are there where all pieces came
-pub all_there : (p : Inside) (m : PartialMessage) → ArePieces p → m ≡ message_in p → is_whole m ≡ true → length p.pieces.items ≡ p.total
+pub all_there : (p : Inside) (m : PartialMessage) → ArePieces p → m ≡ message_of_pieces p → is_whole m ≡ true → length p.pieces.items ≡ p.total
 all_there p m are same whole =
     let none : bytes_missing p.total p.held.items ≡ 0 = no_bytes p.total p.held.items (sym (ap is_whole same) ∙ whole) in
     omega (arith, none, are.bytes)

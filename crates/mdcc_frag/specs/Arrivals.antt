@@ -4,13 +4,13 @@ use Rattle.std.specs.List.{sum_by}
 use Rattle.mdcc_frag.specs.declared.partial.Arrival.{Arrival}
 use Rattle.mdcc_frag.specs.declared.partial.Partial.TheInside.{Inside}
 use Rattle.mdcc_frag.specs.Datagrams.{message_limit, count}
-use Rattle.mdcc_frag.specs.Partial.{PartialMessage, overwritten}
+use Rattle.mdcc_frag.specs.Partial.{PartialMessage, with_piece_bytes}
 
 -- the bytes with the pieces that came written over them
-abbrev pub placed : List Arrival → List ℕ → List ℕ → List ℕ
-placed [] pieces bytes = bytes
-placed (arrival ∷ arrivals) pieces bytes =
-    placed arrivals (drop arrival.size pieces) (overwritten (1383 * arrival.index) (take arrival.size pieces) bytes)
+abbrev pub pieces_placed : List Arrival → List ℕ → List ℕ → List ℕ
+pieces_placed [] pieces bytes = bytes
+pieces_placed (arrival ∷ arrivals) pieces bytes =
+    pieces_placed arrivals (drop arrival.size pieces) (with_piece_bytes (1383 * arrival.index) (take arrival.size pieces) bytes)
 
 -- so many bytes are the pieces that came, each of which lies in a message of this length
 abbrev pub are_laid : ℕ → List Arrival → ℕ → Bool
@@ -19,9 +19,9 @@ are_laid total (arrival ∷ arrivals) size =
     nat_le arrival.size size && (nat_le (1383 * arrival.index + arrival.size) total && are_laid total arrivals (size - arrival.size))
 
 -- each piece lies right behind the one before, and the first at this offset
-abbrev pub in_order : ℕ → List Arrival → Bool
-in_order offset [] = true
-in_order offset (arrival ∷ arrivals) = nat_eq (1383 * arrival.index) offset && in_order (1383 * arrival.index + arrival.size) arrivals
+abbrev pub are_contiguous : ℕ → List Arrival → Bool
+are_contiguous offset [] = true
+are_contiguous offset (arrival ∷ arrivals) = nat_eq (1383 * arrival.index) offset && are_contiguous (1383 * arrival.index + arrival.size) arrivals
 
 -- how many pieces did not come
 abbrev pub absent : Bool → ℕ
@@ -36,9 +36,9 @@ bytes_missing size [] = 0
 bytes_missing size (came ∷ held) = cond came 0 (min 1383 size) + bytes_missing (size - 1383) held
 
 -- the message: zeros, with the pieces that came
-abbrev pub message_in : Inside → PartialMessage
-message_in p = record {
-  bytes = placed p.arrivals.items p.pieces.items (replicate p.total 0);
+abbrev pub message_of_pieces : Inside → PartialMessage
+message_of_pieces p = record {
+  bytes = pieces_placed p.arrivals.items p.pieces.items (replicate p.total 0);
   held = p.held.items;
 }
 

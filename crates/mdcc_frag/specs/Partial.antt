@@ -13,18 +13,18 @@ abbrev pub nothing_of : ℕ → PartialMessage
 nothing_of total = record { bytes = replicate total 0; held = replicate (count total) false }
 
 -- the bytes with these in place of as many from an offset on
-abbrev pub overwritten : ℕ → List ℕ → List ℕ → List ℕ
-overwritten offset piece bytes = take offset bytes ++ piece ++ drop (offset + length piece) bytes
+abbrev pub with_piece_bytes : ℕ → List ℕ → List ℕ → List ℕ
+with_piece_bytes offset piece bytes = take offset bytes ++ piece ++ drop (offset + length piece) bytes
 
 -- the message with the piece of this index
 abbrev pub with_piece : ℕ → List ℕ → PartialMessage → PartialMessage
 with_piece index piece message = record {
-  bytes = overwritten (1383 * index) piece message.bytes;
+  bytes = with_piece_bytes (1383 * index) piece message.bytes;
   held = slice_set message.held index true;
 }
 
-abbrev pub is_held : ℕ → PartialMessage → Bool
-is_held index message = slice_index_or message.held index false
+abbrev pub is_piece_held : ℕ → PartialMessage → Bool
+is_piece_held index message = slice_index_or message.held index false
 
 -- all pieces came
 abbrev pub is_whole : PartialMessage → Bool

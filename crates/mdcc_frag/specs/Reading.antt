@@ -10,8 +10,8 @@ use Rattle.mdcc_frag.specs.Datagrams.{message_limit, count}
 abbrev pub is_endpoint : ℕ → Bool
 is_endpoint n = nat_le 1 n && nat_le n 9 || nat_le 17 n && nat_le n 25
 
-abbrev pub u32_at : ℕ → List ℕ → ℕ
-u32_at offset bytes = from_le_bytes w32 (take 4 (drop offset bytes))
+abbrev pub u32_from : ℕ → List ℕ → ℕ
+u32_from offset bytes = from_le_bytes w32 (take 4 (drop offset bytes))
 
 abbrev pub u16_at : ℕ → List ℕ → ℕ
 u16_at offset bytes = from_le_bytes w16 (take 2 (drop offset bytes))
@@ -22,8 +22,8 @@ has_header bytes = nat_le 17 (length bytes) && is_endpoint (slice_index bytes 0)
 -- what the header says
 abbrev pub piece_at : List ℕ → Piece
 piece_at bytes = record {
-  head = record { sender = slice_index bytes 0; epoch = u32_at 1 bytes; serial = u32_at 5 bytes };
-  total = u32_at 9 bytes;
+  head = record { sender = slice_index bytes 0; epoch = u32_from 1 bytes; serial = u32_from 5 bytes };
+  total = u32_from 9 bytes;
   index = u16_at 13 bytes;
 }
 

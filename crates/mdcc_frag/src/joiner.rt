@@ -3,7 +3,7 @@ ghost use Rattle.std.specs.Prelude.{◌≡◌, ◌≤◌, ◌<◌, ◌+◌, ◌*
 ghost use Rattle.std.specs.Map.{lookup_entry};
 ghost use Rattle.mdcc_frag.specs.Datagrams.{message_limit, count};
 ghost use Rattle.mdcc_frag.specs.Reading.{FitsIn, payload};
-ghost use Rattle.mdcc_frag.specs.Joining.{Entry, entry_of, others, step, first_piece, take_piece, known_step, IsTaken, next_step, message_of, join, is_taken};
+ghost use Rattle.mdcc_frag.specs.Joining.{JoinEntry, entry_of, others, join_step, first_piece, take_piece, known_step, IsPieceTaken, next_step, message_of, join, is_taken};
 
 use crate::datagrams::{FragHead, MESSAGE_LIMIT};
 use crate::joined::{Joined, NextStep};
@@ -28,9 +28,9 @@ pub struct Joiner {
 impl Model for Joiner {
     ghost use Rattle.std.specs.Prelude.{◌≡◌, ◌≤◌, List, vec_capacity};
     ghost use Rattle.mdcc_frag.specs.Datagrams.{message_limit};
-    ghost use Rattle.mdcc_frag.specs.Joining.{Entry};
+    ghost use Rattle.mdcc_frag.specs.Joining.{JoinEntry};
 
-    ghost Value = { List Entry };
+    ghost Value = { List JoinEntry };
 
     ghost view = { λ j. j.table.entries };
 
@@ -72,7 +72,7 @@ fn begin(
     requires cap { table.old.cap ≡ 64 }
     requires room { message_limit ≤ vec_capacity scratch.old }
     requires fits { FitsIn piece.now (length bytes.now) }
-    ensures taken { IfOk result (λ answer. step answer table.new.entries
+    ensures taken { IfOk result (λ answer. join_step answer table.new.entries
         ≡ take_piece piece.now bytes.now table.old.entries (entry_of piece.now table.old.entries)) }
     ensures refused { OnErr result (table.new ≡ table.old) }
     ensures cap { table.new.cap ≡ 64 }
@@ -102,7 +102,7 @@ fn take_missing(
 ) -> Result<bool, AllocError>
     requires missing { next_step piece.now (message_of piece.now table.old.entries) ≡ NextStep.Advance }
     requires fits { FitsIn piece.now (length bytes.now) }
-    ensures taken { IfOk result (λ complete. IsTaken piece.now bytes.now table.old.entries complete table.new.entries) }
+    ensures taken { IfOk result (λ complete. IsPieceTaken piece.now bytes.now table.old.entries complete table.new.entries) }
     ensures refused { OnErr result (table.new ≡ table.old) }
     ensures cap { table.new.cap ≡ table.old.cap }
 {
@@ -127,7 +127,7 @@ fn advance(
     requires missing { next_step piece.now (message_of piece.now table.old.entries) ≡ NextStep.Advance }
     requires room { message_limit ≤ vec_capacity scratch.old }
     requires fits { FitsIn piece.now (length bytes.now) }
-    ensures taken { IfOk result (λ answer. step answer table.new.entries
+    ensures taken { IfOk result (λ answer. join_step answer table.new.entries
         ≡ take_piece piece.now bytes.now table.old.entries (entry_of piece.now table.old.entries)) }
     ensures refused { OnErr result (table.new ≡ table.old) }
     ensures cap { table.new.cap ≡ table.old.cap }
@@ -153,7 +153,7 @@ fn take_piece(
     requires cap { table.old.cap ≡ 64 }
     requires room { message_limit ≤ vec_capacity scratch.old }
     requires fits { FitsIn piece.now (length bytes.now) }
-    ensures taken { IfOk result (λ answer. step answer table.new.entries
+    ensures taken { IfOk result (λ answer. join_step answer table.new.entries
         ≡ take_piece piece.now bytes.now table.old.entries (entry_of piece.now table.old.entries)) }
     ensures refused { OnErr result (table.new ≡ table.old) }
     ensures memory { OnErr result
@@ -185,7 +185,7 @@ impl Joiner {
 
     /// Takes a datagram. Memory is needed only for a piece that is taken, and without it nothing has changed.
     pub fn join(&mut self, alloc: Global, datagram: &[u8]) -> Result<Joined, AllocError>
-        ensures answer { IfOk result (λ answer. step answer self.new ≡ join datagram.now self.old) }
+        ensures answer { IfOk result (λ answer. join_step answer self.new ≡ join datagram.now self.old) }
         ensures out_of_memory { OnErr result (self.new ≡ self.old) }
         ensures memory { OnErr result (is_taken (join datagram.now self.old).answer ≡ true) }
     {

@@ -1,8 +1,8 @@
 //! A message of which some pieces came.
 ghost use Rattle.std.specs.Prelude.{◌≡◌, ◌≤◌, ◌<◌, ◌+◌, ◌*◌, ◌++◌, length, take, drop, min, max, vec_len, vec_capacity, true, false, IfOk, OnOk, OnErr};
 ghost use Rattle.mdcc_frag.specs.Datagrams.{message_limit, count};
-ghost use Rattle.mdcc_frag.specs.Partial.{nothing_of, overwritten, with_piece, is_held, is_whole};
-ghost use Rattle.mdcc_frag.specs.Arrivals.{placed, are_laid, in_order};
+ghost use Rattle.mdcc_frag.specs.Partial.{nothing_of, with_piece_bytes, with_piece, is_piece_held, is_whole};
+ghost use Rattle.mdcc_frag.specs.Arrivals.{pieces_placed, are_laid, are_contiguous};
 ghost use Rattle.mdcc_frag.specs.Reading.{piece_length};
 
 use crate::datagrams::count;
@@ -29,11 +29,11 @@ pub struct Partial {
 
 impl Model for Partial {
     ghost use Rattle.mdcc_frag.specs.Partial.{PartialMessage};
-    ghost use Rattle.mdcc_frag.specs.Arrivals.{message_in, ArePieces};
+    ghost use Rattle.mdcc_frag.specs.Arrivals.{message_of_pieces, ArePieces};
 
     ghost Value = { PartialMessage };
 
-    ghost view = { message_in };
+    ghost view = { message_of_pieces };
 
     ghost invariant = { ArePieces };
 }
@@ -41,7 +41,7 @@ impl Model for Partial {
 // Writes these bytes in place of as many from the offset on.
 fn overwrite(bytes: &mut Vec<u8>, offset: usize, piece: &[u8])
     requires { offset + length piece.now ≤ vec_len bytes.old }
-    ensures items { bytes.new.items ≡ overwritten offset piece.now bytes.old.items }
+    ensures items { bytes.new.items ≡ with_piece_bytes offset piece.now bytes.old.items }
     ensures len { vec_len bytes.new ≡ vec_len bytes.old }
     ensures room { vec_capacity bytes.old ≤ vec_capacity bytes.new }
 {
@@ -52,7 +52,7 @@ fn overwrite(bytes: &mut Vec<u8>, offset: usize, piece: &[u8])
 // Writes the pieces that came over these bytes.
 fn place(arrivals: &[Arrival], pieces: &[u8], bytes: &mut Vec<u8>)
     requires { are_laid (vec_len bytes.old) arrivals.now (length pieces.now) ≡ true }
-    ensures items { bytes.new.items ≡ placed arrivals.now pieces.now bytes.old.items }
+    ensures items { bytes.new.items ≡ pieces_placed arrivals.now pieces.now bytes.old.items }
     ensures room { vec_capacity bytes.old ≤ vec_capacity bytes.new }
 {
     let mut rest = pieces;
@@ -65,7 +65,7 @@ fn place(arrivals: &[Arrival], pieces: &[u8], bytes: &mut Vec<u8>)
 
 // Whether each piece lies right behind the one before.
 fn are_in_order(arrivals: &[Arrival]) -> bool
-    ensures { result ≡ in_order 0 arrivals.now }
+    ensures { result ≡ are_contiguous 0 arrivals.now }
 {
     let mut offset = 0usize;
     for arrival in arrivals {
@@ -117,7 +117,7 @@ impl Partial {
 
     /// Whether the piece of this index came.
     pub fn holds(&self, index: u16) -> bool
-        ensures { result ≡ is_held index self.now }
+        ensures { result ≡ is_piece_held index self.now }
     {
         match self.held.get(index as usize) {
             Some(came) => *came,
@@ -128,7 +128,7 @@ impl Partial {
     /// Takes the piece of this index, which did not come yet. Without memory nothing has changed.
     pub fn take(&mut self, index: u16, piece: &[u8]) -> Result<(), AllocError>
         requires index { index < count (length self.old.bytes) }
-        requires missing { is_held index self.old ≡ false }
+        requires missing { is_piece_held index self.old ≡ false }
         requires size { length piece.now ≡ piece_length (length self.old.bytes) index }
         ensures taken { OnOk result (self.new ≡ with_piece index piece.now self.old) }
         ensures out_of_memory { OnErr result (self.new ≡ self.old) }

@@ -8,11 +8,11 @@ use Rattle.mdcc_struct.specs.Maps.{TxMap, value_of}
 use Rattle.mdcc_struct.proofs.Inclusion.{same_found}
 use Rattle.mdcc_struct.proofs.Values.{value_of-union}
 use Rattle.mdcc_struct.proofs.Walks.{ascending-filter}
-use Rattle.mdcc_messages.specs.declared.facts.Fact.{Fact}
-use Rattle.mdcc_fact_folds.proofs.Chosen.{or_right}
-use Rattle.mdcc_fact_folds.proofs.Folded.{gathered}
-use Rattle.mdcc_fact_folds.proofs.Joined.{joined, joined-ascends}
-use Rattle.mdcc_fact_folds.proofs.Unheard.{kept_value, value-kept}
+use Rattle.mdcc_def_messages.specs.declared.facts.Fact.{Fact}
+use Rattle.mdcc_theorem_fact_folds.proofs.Chosen.{or_right}
+use Rattle.mdcc_theorem_fact_folds.proofs.Folded.{gathered}
+use Rattle.mdcc_theorem_fact_folds.proofs.Joined.{joined, joined-ascends}
+use Rattle.mdcc_theorem_fact_folds.proofs.Unheard.{kept_value, value-kept}
 use Rattle.mdcc_given_back.specs.Rest.{AreRest, IsLeft, bare, is_bared, is_dropped}
 
 -- ---- a property that each fact has

@@ -3,9 +3,9 @@ use Rattle.std.proofs.Common.{◌≡◌, ◌+◌, if◌then◌else◌, ℕ, true
 use Rattle.std.specs.Prelude.{nat_lt}
 use Rattle.std.proofs.lemmas.Bool.{cases_Bool}
 use Rattle.mdcc_base.specs.Counts.{number_of, sum_over}
-use Rattle.mdcc_messages.specs.declared.facts.Fact.{Fact}
-use Rattle.mdcc_protocol.specs.Cells.{cells_left}
-use Rattle.mdcc_protocol.specs.Facts.{floor_of}
+use Rattle.mdcc_def_messages.specs.declared.facts.Fact.{Fact}
+use Rattle.mdcc_def_protocol.specs.Cells.{cells_left}
+use Rattle.mdcc_def_protocol.specs.Facts.{floor_of}
 use Rattle.mdcc_given_back.specs.Counted.{HeldApart, is_top, without_floors}
 use Rattle.mdcc_given_back.specs.Rest.{AreRest, IsLeft, bare, is_dropped}
 use Rattle.mdcc_given_back.proofs.Compacting.{held_by_rest, used-left}

@@ -6,11 +6,11 @@ use Rattle.std.proofs.lemmas.Bool.{and_parts, not-true}
 use Rattle.std.proofs.lemmas.Grind.{div_ceil_times}
 use Rattle.mdcc_base.specs.Ballot.{is_fast}
 use Rattle.mdcc_base.specs.Counts.{sum_over}
-use Rattle.mdcc_messages.specs.Lengths.{cells_needed, cells_used, fact_length}
-use Rattle.mdcc_messages.specs.WellFormed.{IsWellFormedFact}
-use Rattle.mdcc_messages.specs.declared.facts.Fact.{Fact}
-use Rattle.mdcc_protocol.specs.Cells.{cells_kept, cells_left}
-use Rattle.mdcc_protocol.specs.Facts.{has_floor}
+use Rattle.mdcc_def_messages.specs.Lengths.{cells_needed, cells_used, fact_length}
+use Rattle.mdcc_def_messages.specs.WellFormed.{IsWellFormedFact}
+use Rattle.mdcc_def_messages.specs.declared.facts.Fact.{Fact}
+use Rattle.mdcc_def_protocol.specs.Cells.{cells_kept, cells_left}
+use Rattle.mdcc_def_protocol.specs.Facts.{has_floor}
 use Rattle.mdcc_given_back.specs.Compact.{CompactedIsHeld, CompactedIsRest, CompactedOnce, HeldByRest, HeldWithinRest, LeftOfRest, compacted}
 use Rattle.mdcc_given_back.specs.Rest.{AreRest, IsLeft, bare, is_bared, is_dropped, is_vote_past}
 use Rattle.mdcc_given_back.proofs.Left.{cells-left}

@@ -14,12 +14,12 @@ use Rattle.mdcc_option.specs.declared.choices.Choice.{Choice}
 use Rattle.mdcc_option.specs.declared.choices.Outcome.{Outcome}
 use Rattle.mdcc_struct.specs.Maps.{value_of}
 use Rattle.mdcc_struct.specs.declared.options.Options.{Options}
-use Rattle.mdcc_messages.specs.Lengths.{cells_needed}
-use Rattle.mdcc_messages.specs.declared.facts.Fact.{Fact}
-use Rattle.mdcc_protocol.specs.Cells.{cells_held, cells_kept, cells_left}
-use Rattle.mdcc_protocol.specs.Facts.{current_of, floor_of, has_floor, heard_of, is_finished, is_floor, is_forgotten, is_idle, is_needed, is_past, shows_mark}
-use Rattle.mdcc_protocol.specs.Marks.{is_write}
-use Rattle.mdcc_fact_folds.proofs.Chosen.{or_right}
+use Rattle.mdcc_def_messages.specs.Lengths.{cells_needed}
+use Rattle.mdcc_def_messages.specs.declared.facts.Fact.{Fact}
+use Rattle.mdcc_def_protocol.specs.Cells.{cells_held, cells_kept, cells_left}
+use Rattle.mdcc_def_protocol.specs.Facts.{current_of, floor_of, has_floor, heard_of, is_finished, is_floor, is_forgotten, is_idle, is_needed, is_past, shows_mark}
+use Rattle.mdcc_def_protocol.specs.Marks.{is_write}
+use Rattle.mdcc_theorem_fact_folds.proofs.Chosen.{or_right}
 use Rattle.mdcc_given_back.specs.Counted.{HeldByNeeded, HeldWithinNeeded, LeftFalls}
 use Rattle.mdcc_given_back.specs.Growth.{tells_of_finished}
 use Rattle.mdcc_given_back.specs.Rest.{is_bared, is_dropped, is_vote_past}

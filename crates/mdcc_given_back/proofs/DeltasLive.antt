@@ -15,10 +15,10 @@ use Rattle.mdcc_option.specs.declared.choices.Outcome.{Outcome}
 use Rattle.mdcc_option.specs.declared.items.Delta.{Delta}
 use Rattle.mdcc_struct.specs.Maps.{TxMap, inserted, union, value_of, with_entry}
 use Rattle.mdcc_struct.proofs.Order.{tx_eq-refl, tx_eq-same}
-use Rattle.mdcc_messages.specs.WellFormedParts.{IsWellFormedOf}
-use Rattle.mdcc_messages.specs.declared.facts.Fact.{Fact}
-use Rattle.mdcc_protocol.specs.Facts.{amounts_added, current_of, delta_given, deltas_at, deltas_from, is_idle, is_needed}
-use Rattle.mdcc_protocol.specs.Marks.{Amounts}
+use Rattle.mdcc_def_messages.specs.WellFormedParts.{IsWellFormedOf}
+use Rattle.mdcc_def_messages.specs.declared.facts.Fact.{Fact}
+use Rattle.mdcc_def_protocol.specs.Facts.{amounts_added, current_of, delta_given, deltas_at, deltas_from, is_idle, is_needed}
+use Rattle.mdcc_def_protocol.specs.Marks.{Amounts}
 use Rattle.mdcc_given_back.specs.Loads.{DeltasAreLive, WellFormedAreOwn, are_choices_own, is_adoption_live}
 use Rattle.mdcc_given_back.proofs.FirstHeard.{IsFirst, first-heard, unneeded-choices}
 use Rattle.mdcc_given_back.proofs.VersionsLeft.{no-delta}

@@ -15,10 +15,10 @@ use Rattle.mdcc_option.specs.declared.choices.Outcome.{Outcome}
 use Rattle.mdcc_struct.specs.Maps.{value_of}
 use Rattle.mdcc_struct.specs.declared.options.Options.{Options}
 use Rattle.mdcc_struct.proofs.Order.{tx_eq-same}
-use Rattle.mdcc_messages.specs.declared.facts.Fact.{Fact}
-use Rattle.mdcc_protocol.specs.Facts.{heard_of, is_finished, is_forgotten, is_idle, is_needed, is_past, outcome_in, outcome_kept, shows_mark}
-use Rattle.mdcc_protocol.specs.Marks.{is_commit, is_write}
-use Rattle.mdcc_fact_folds.specs.Outcomes.{are_heard_once}
+use Rattle.mdcc_def_messages.specs.declared.facts.Fact.{Fact}
+use Rattle.mdcc_def_protocol.specs.Facts.{heard_of, is_finished, is_forgotten, is_idle, is_needed, is_past, outcome_in, outcome_kept, shows_mark}
+use Rattle.mdcc_def_protocol.specs.Marks.{is_commit, is_write}
+use Rattle.mdcc_theorem_fact_folds.specs.Outcomes.{are_heard_once}
 use Rattle.mdcc_given_back.specs.Endings.{EndedStays, HeardOfRest, IdleOfHeard, KeptByShown, KeptStays}
 use Rattle.mdcc_given_back.specs.Rest.{AreRest, IsLeft, IsRest, bare, is_vote_past}
 use Rattle.mdcc_given_back.proofs.Alike.{AnyFact, any-alike, each}

@@ -7,10 +7,10 @@ use Rattle.mdcc_base.specs.declared.identifiers.TxId.{TxId}
 use Rattle.mdcc_option.specs.declared.choices.Choice.{Choice}
 use Rattle.mdcc_option.specs.declared.choices.Outcome.{Outcome}
 use Rattle.mdcc_struct.proofs.Order.{tx_eq-refl}
-use Rattle.mdcc_messages.specs.declared.facts.Fact.{Fact}
-use Rattle.mdcc_protocol.specs.Facts.{heard_of, is_finished, is_idle, is_needed, is_past, shows_mark}
+use Rattle.mdcc_def_messages.specs.declared.facts.Fact.{Fact}
+use Rattle.mdcc_def_protocol.specs.Facts.{heard_of, is_finished, is_idle, is_needed, is_past, shows_mark}
 use Rattle.mdcc_facts.specs.Adding.{is_heard_before}
-use Rattle.mdcc_fact_folds.specs.Outcomes.{are_heard_once}
+use Rattle.mdcc_theorem_fact_folds.specs.Outcomes.{are_heard_once}
 use Rattle.mdcc_given_back.proofs.Alike.{each-more}
 
 -- an outcome that a fact tells is the one that was heard

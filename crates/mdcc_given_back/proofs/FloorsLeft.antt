@@ -2,8 +2,8 @@
 use Rattle.std.proofs.Common.{◌≡◌, ◌==◌, ◌&&◌, ◌||◌, ◌<◌, ℕ, Bool, true, false, List, [], ◌∷◌, refl, sym, ap, ◌∙◌, inl, inr, arith, max}
 use Rattle.std.proofs.lemmas.Bool.{and_parts, eqb-true, ltb-true, cases_Bool}
 use Rattle.std.specs.Prelude.{nat_le, nat_lt}
-use Rattle.mdcc_messages.specs.declared.facts.Fact.{Fact}
-use Rattle.mdcc_protocol.specs.Facts.{floor_of, floor_set, has_floor, is_floor}
+use Rattle.mdcc_def_messages.specs.declared.facts.Fact.{Fact}
+use Rattle.mdcc_def_protocol.specs.Facts.{floor_of, floor_set, has_floor, is_floor}
 use Rattle.mdcc_given_back.specs.Finished.{FinishedStays, FloorStays, HasFloorStays}
 use Rattle.mdcc_given_back.specs.Rest.{AreRest, IsLeft, IsRest, bare, is_bared, is_dropped}
 use Rattle.mdcc_given_back.proofs.Alike.{AnyFact, any-alike, each}

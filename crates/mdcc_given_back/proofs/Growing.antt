@@ -16,9 +16,9 @@ use Rattle.mdcc_option.proofs.Equal.{Decides-key}
 use Rattle.mdcc_struct.specs.Maps.{value_of}
 use Rattle.mdcc_struct.specs.declared.options.Options.{Options}
 use Rattle.mdcc_struct.proofs.Order.{tx_eq-same}
-use Rattle.mdcc_protocol.specs.Marks.{is_write}
-use Rattle.mdcc_messages.specs.declared.facts.Fact.{Fact}
-use Rattle.mdcc_protocol.specs.Facts.{current_of, floor_of, heard_of, is_finished, is_forgotten, is_idle, is_needed, is_past, outcome_in, shows_mark, version_from, version_given}
+use Rattle.mdcc_def_protocol.specs.Marks.{is_write}
+use Rattle.mdcc_def_messages.specs.declared.facts.Fact.{Fact}
+use Rattle.mdcc_def_protocol.specs.Facts.{current_of, floor_of, heard_of, is_finished, is_forgotten, is_idle, is_needed, is_past, outcome_in, shows_mark, version_from, version_given}
 use Rattle.mdcc_given_back.specs.Growth.{BaredStays, DroppedStays, RestsGrow, RestsStay, tells_of_finished}
 use Rattle.mdcc_given_back.specs.Rest.{IsLeft, is_vote_past}
 

@@ -5,10 +5,10 @@ use Rattle.std.proofs.lemmas.Bool.{cases_Bool}
 use Rattle.mdcc_base.specs.TxId.{tx_eq}
 use Rattle.mdcc_base.specs.declared.identifiers.TxId.{TxId}
 use Rattle.mdcc_struct.proofs.Order.{tx_eq-same}
-use Rattle.mdcc_messages.specs.declared.facts.Fact.{Fact}
-use Rattle.mdcc_protocol.specs.Facts.{heard_of, is_finished, is_heard, is_idle, outcome_in}
-use Rattle.mdcc_fact_folds.proofs.Chosen.{or_right}
-use Rattle.mdcc_fact_folds.proofs.Folded.{gathered}
+use Rattle.mdcc_def_messages.specs.declared.facts.Fact.{Fact}
+use Rattle.mdcc_def_protocol.specs.Facts.{heard_of, is_finished, is_heard, is_idle, outcome_in}
+use Rattle.mdcc_theorem_fact_folds.proofs.Chosen.{or_right}
+use Rattle.mdcc_theorem_fact_folds.proofs.Folded.{gathered}
 use Rattle.mdcc_given_back.specs.Endings.{HeardStays, KeptByRest}
 use Rattle.mdcc_given_back.specs.Finished.{SettledByRest, SettledStays, UnfinishedHeardStays}
 use Rattle.mdcc_given_back.specs.Rest.{bare, is_bared, is_dropped}

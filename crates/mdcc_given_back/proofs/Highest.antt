@@ -4,8 +4,8 @@ use Rattle.std.specs.List.{AllByRecursion}
 use Rattle.std.proofs.lemmas.Bool.{cases_Bool, eqb-true, cases_lt}
 use Rattle.std.proofs.lemmas.Bool.Decides.{nat_tests}
 use Rattle.std.specs.Prelude.{nat_lt}
-use Rattle.mdcc_messages.specs.declared.facts.Fact.{Fact}
-use Rattle.mdcc_fact_folds.proofs.Folded.{gathered}
+use Rattle.mdcc_def_messages.specs.declared.facts.Fact.{Fact}
+use Rattle.mdcc_theorem_fact_folds.proofs.Folded.{gathered}
 use Rattle.mdcc_given_back.specs.Rest.{AreRest, IsLeft, IsRest, bare, is_dropped}
 use Rattle.mdcc_given_back.proofs.Alike.{later_or, rest-says}
 

@@ -20,15 +20,15 @@ use Rattle.mdcc_struct.proofs.Inclusion.{same_found}
 use Rattle.mdcc_struct.proofs.Order.{tx_eq-same}
 use Rattle.mdcc_struct.proofs.Values.{value_of-union}
 use Rattle.mdcc_struct.proofs.Walks.{ascending-filter}
-use Rattle.mdcc_messages.specs.declared.facts.Fact.{Fact}
-use Rattle.mdcc_protocol.specs.Facts.{current_of, deltas_at, deltas_from, heard_of, is_forgotten, is_idle, is_void, live_and_void, live_from, live_mark, shows_mark}
-use Rattle.mdcc_protocol.specs.Fit.{capped, load_of}
-use Rattle.mdcc_protocol.specs.Marks.{Amounts, is_abort}
-use Rattle.mdcc_protocol.specs.Plain.{plain_is_void, plain_live_and_void, plain_live_from}
-use Rattle.mdcc_fact_folds.proofs.Deltas.{deltas-joined}
-use Rattle.mdcc_fact_folds.proofs.Folded.{gathered}
-use Rattle.mdcc_fact_folds.proofs.Joined.{joined, joined-ascends}
-use Rattle.mdcc_fact_folds.proofs.Unheard.{kept_value, value-kept}
+use Rattle.mdcc_def_messages.specs.declared.facts.Fact.{Fact}
+use Rattle.mdcc_def_protocol.specs.Facts.{current_of, deltas_at, deltas_from, heard_of, is_forgotten, is_idle, is_void, live_and_void, live_from, live_mark, shows_mark}
+use Rattle.mdcc_def_protocol.specs.Fit.{capped, load_of}
+use Rattle.mdcc_def_protocol.specs.Marks.{Amounts, is_abort}
+use Rattle.mdcc_def_protocol.specs.Plain.{plain_is_void, plain_live_and_void, plain_live_from}
+use Rattle.mdcc_theorem_fact_folds.proofs.Deltas.{deltas-joined}
+use Rattle.mdcc_theorem_fact_folds.proofs.Folded.{gathered}
+use Rattle.mdcc_theorem_fact_folds.proofs.Joined.{joined, joined-ascends}
+use Rattle.mdcc_theorem_fact_folds.proofs.Unheard.{kept_value, value-kept}
 use Rattle.mdcc_given_back.specs.Loads.{LiveAndVoidStay, LiveByRest, LoadByRest, are_deltas_live}
 use Rattle.mdcc_given_back.specs.Rest.{IsRest, bare, is_bared, is_dropped, is_vote_past}
 use Rattle.mdcc_given_back.proofs.Alike.{rest-says}

@@ -19,15 +19,15 @@ use Rattle.mdcc_struct.specs.Maps.{value_of}
 use Rattle.mdcc_struct.specs.declared.options.Options.{Options}
 use Rattle.mdcc_struct.specs.declared.report.Report.{Report}
 use Rattle.mdcc_struct.proofs.Order.{tx_eq-same}
-use Rattle.mdcc_messages.specs.declared.facts.Fact.{Fact}
-use Rattle.mdcc_protocol.specs.Facts.{choice_of_tx, choice_voted, current_of, first_choice, is_finished, is_forgotten, last_ballot, last_vote, later_vote, mark_voted, marks_voted, shown_of, votes_of, without_forgotten}
-use Rattle.mdcc_protocol.specs.Marks.{accepts_in, rejects_in}
-use Rattle.mdcc_protocol.specs.Stores.{is_above}
+use Rattle.mdcc_def_messages.specs.declared.facts.Fact.{Fact}
+use Rattle.mdcc_def_protocol.specs.Facts.{choice_of_tx, choice_voted, current_of, first_choice_voted, is_finished, is_forgotten, last_ballot, last_vote, later_vote, mark_voted, marks_voted, shown_of, votes_of, without_forgotten}
+use Rattle.mdcc_def_protocol.specs.Marks.{accepts_in, rejects_in}
+use Rattle.mdcc_def_protocol.specs.Stores.{is_above}
 use Rattle.mdcc_given_back.specs.Offers.{offers_unmarked}
 use Rattle.mdcc_facts.specs.Past.{is_past_mark}
-use Rattle.mdcc_fact_folds.proofs.Chosen.{or_right}
-use Rattle.mdcc_fact_folds.proofs.Folded.{gathered}
-use Rattle.mdcc_fact_folds.proofs.Joined.{votes-joined}
+use Rattle.mdcc_theorem_fact_folds.proofs.Chosen.{or_right}
+use Rattle.mdcc_theorem_fact_folds.proofs.Folded.{gathered}
+use Rattle.mdcc_theorem_fact_folds.proofs.Joined.{votes-joined}
 use Rattle.mdcc_given_back.specs.Marks.{ChoiceByRest, ChoiceStays, CountPastByRest, CountPastStays, EntriesAtStay, EntriesByRest, EntriesByShown, EntriesStay, MarkAfterStays, MarkBelowStays, ReportByRest, ReportStays, ShownByRest, ShownStays, VoteByRest, VoteStays}
 use Rattle.mdcc_given_back.specs.Rest.{IsRest, bare, is_bared, is_dropped, is_vote_past}
 use Rattle.mdcc_given_back.proofs.Alike.{AnyFact, each, kept-alike, rest-says, value-alike}
@@ -90,7 +90,7 @@ marked (fact ∷ facts) h = elim (cases_Bool (offers_unmarked fact)) [
   | inr does_not ↦ let others : list_any offers_unmarked facts ≡ false = rw does_not at h in (does_not, marked facts others)
 ]
 
-choices : (facts : List Fact) (key : Key) (version : ℕ) (tx : TxId) → first_choice facts key version tx ≡ gathered option_or None (choice_voted key version tx) facts
+choices : (facts : List Fact) (key : Key) (version : ℕ) (tx : TxId) → first_choice_voted facts key version tx ≡ gathered option_or None (choice_voted key version tx) facts
 choices [] key version tx = refl
 choices (fact ∷ facts) key version tx = ap (λ o. option_or o (choice_voted key version tx fact)) (choices facts key version tx)
 
@@ -119,7 +119,7 @@ module _ (all : List Fact) (key : Key) (version : ℕ) (tx : TxId) (shown : is_f
     | inr other ↦ rw other refl
   ]
 
-  pub choice-alike : (rest : List Fact) → IsRest rest all → AllByRecursion IsMarked all → first_choice rest key version tx ≡ first_choice all key version tx
+  pub choice-alike : (rest : List Fact) → IsRest rest all → AllByRecursion IsMarked all → first_choice_voted rest key version tx ≡ first_choice_voted all key version tx
   choice-alike rest is ps =
       choices rest key version tx
       ∙ rest-says option_or None or_right (choice_voted key version tx) all IsMarked
@@ -130,12 +130,12 @@ module _ (all : List Fact) (key : Key) (version : ℕ) (tx : TxId) (shown : is_f
 
 pub choice-by-rest : ChoiceByRest
 choice-by-rest rest facts key version tx is has =
-    unless-forgotten (is_forgotten facts key version tx) (first_choice rest key version tx) (first_choice facts key version tx)
+    unless-forgotten (is_forgotten facts key version tx) (first_choice_voted rest key version tx) (first_choice_voted facts key version tx)
     (λ shown. choice-alike facts key version tx shown rest is (marked facts has))
 
 pub choice-stays : ChoiceStays
 choice-stays rest facts key version tx is once has =
-    ap (λ (b : Bool). if b then None else first_choice rest key version tx) (forgotten-stays rest facts key version tx is once)
+    ap (λ (b : Bool). if b then None else first_choice_voted rest key version tx) (forgotten-stays rest facts key version tx is once)
     ∙ sym (choice-by-rest rest facts key version tx is has)
 
 -- ---- the marks at a ballot

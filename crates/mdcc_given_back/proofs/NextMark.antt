@@ -8,17 +8,17 @@ use Rattle.mdcc_base.specs.TxId.{tx_lt}
 use Rattle.mdcc_base.specs.declared.identifiers.Ballot.{Ballot}
 use Rattle.mdcc_base.specs.declared.identifiers.TxId.{TxId}
 use Rattle.mdcc_base.specs.declared.key.Key.{Key}
-use Rattle.mdcc_messages.specs.declared.facts.Fact.{Fact}
+use Rattle.mdcc_def_messages.specs.declared.facts.Fact.{Fact}
 use Rattle.mdcc_option.specs.declared.choices.Mark.{Mark}
 use Rattle.mdcc_struct.specs.Maps.{TxMap, are_ascending}
 use Rattle.mdcc_struct.specs.declared.options.Options.{Options}
 use Rattle.mdcc_struct.specs.declared.report.Report.{Report}
 use Rattle.mdcc_struct.proofs.Order.{tx_lt-not_back, tx_lt-trans}
 use Rattle.mdcc_struct.proofs.Ordered.{IsBelow, ascending-below, ascending-tail}
-use Rattle.mdcc_protocol.specs.Facts.{is_forgotten, last_ballot, marks_voted, votes_of}
-use Rattle.mdcc_protocol.specs.Plain.{plain_mark_after}
-use Rattle.mdcc_protocol.specs.Stores.{is_above, mark_after}
-use Rattle.mdcc_fact_folds.proofs.Joined.{joined-ascends, votes-joined}
+use Rattle.mdcc_def_protocol.specs.Facts.{is_forgotten, last_ballot, marks_voted, votes_of}
+use Rattle.mdcc_def_protocol.specs.Plain.{plain_mark_after}
+use Rattle.mdcc_def_protocol.specs.Stores.{is_above, mark_after}
+use Rattle.mdcc_theorem_fact_folds.proofs.Joined.{joined-ascends, votes-joined}
 use Rattle.mdcc_given_back.specs.Rest.{IsRest}
 use Rattle.mdcc_given_back.specs.Marks.{NextMarkByRest, unless_forgotten}
 use Rattle.mdcc_given_back.proofs.MarksLeft.{report-by-rest}

@@ -5,9 +5,9 @@ use Rattle.std.specs.List.{cons_option, list_any}
 use Rattle.std.specs.Prelude.{if◌then◌else◌, nat_le, nat_lt, not}
 use Rattle.std.proofs.lemmas.Bool.{and_parts, cases_Bool, cases_lt, eqb-true, ltb-true}
 use Rattle.std.proofs.lemmas.Bool.Decides.{nat_tests}
-use Rattle.mdcc_messages.specs.declared.facts.Fact.{Fact}
-use Rattle.mdcc_protocol.specs.Facts.{floor_of, floor_set, heard_of, heard_through_of, is_finished, is_past, shows_mark}
-use Rattle.mdcc_protocol.specs.Floors.{is_before, origin_in, origins_of, with_origin}
+use Rattle.mdcc_def_messages.specs.declared.facts.Fact.{Fact}
+use Rattle.mdcc_def_protocol.specs.Facts.{floor_of, floor_set, heard_of, heard_through_of, is_finished, is_past, shows_mark}
+use Rattle.mdcc_def_protocol.specs.Floors.{is_before, origin_in, origins_of, with_origin}
 use Rattle.mdcc_given_back.specs.Origins.{OriginsStay, SweepStays}
 use Rattle.mdcc_given_back.specs.Rest.{IsRest, bare, is_bared, is_dropped}
 use Rattle.mdcc_given_back.proofs.Alike.{AnyFact, any-alike, each}

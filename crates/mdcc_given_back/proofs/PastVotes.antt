@@ -19,9 +19,9 @@ use Rattle.mdcc_option.specs.declared.items.Item.{Item}
 use Rattle.mdcc_struct.specs.Maps.{value_of}
 use Rattle.mdcc_struct.specs.declared.options.Options.{Options}
 use Rattle.mdcc_struct.proofs.Order.{tx_eq-same}
-use Rattle.mdcc_messages.specs.declared.facts.Fact.{Fact}
-use Rattle.mdcc_protocol.specs.Facts.{is_forgotten}
-use Rattle.mdcc_protocol.specs.Marks.{choice_in}
+use Rattle.mdcc_def_messages.specs.declared.facts.Fact.{Fact}
+use Rattle.mdcc_def_protocol.specs.Facts.{is_forgotten}
+use Rattle.mdcc_def_protocol.specs.Marks.{choice_in}
 use Rattle.mdcc_given_back.specs.Rest.{bare, is_bared, is_dropped, is_vote_past}
 
 pub past-value : (all : List Fact) (key : Key) (version : ℕ) (options : Options) (tx : TxId)

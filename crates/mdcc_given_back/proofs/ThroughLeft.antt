@@ -7,9 +7,9 @@ use Rattle.std.proofs.lemmas.Bool.Decides.{nat_tests}
 use Rattle.mdcc_base.specs.Counts.{number_of}
 use Rattle.mdcc_base.specs.TxId.{tx_eq}
 use Rattle.mdcc_base.specs.declared.identifiers.TxId.{TxId}
-use Rattle.mdcc_messages.specs.declared.facts.Fact.{Fact}
-use Rattle.mdcc_protocol.specs.Facts.{floor_of, heard_of, is_finished, is_heard, is_settled, outcome_in, settled_after}
-use Rattle.mdcc_fact_folds.specs.Chains.{is_heard_of}
+use Rattle.mdcc_def_messages.specs.declared.facts.Fact.{Fact}
+use Rattle.mdcc_def_protocol.specs.Facts.{floor_of, heard_of, is_finished, is_heard, is_settled, outcome_in, settled_after}
+use Rattle.mdcc_theorem_fact_folds.specs.Chains.{is_heard_of}
 use Rattle.mdcc_given_back.specs.Finished.{HeardThroughByRest, HeardThroughEnds, HeardThroughStays}
 use Rattle.mdcc_given_back.specs.Rest.{IsRest}
 use Rattle.mdcc_given_back.proofs.FloorsLeft.{floor-stays}

@@ -5,8 +5,8 @@ use Rattle.std.proofs.Math.Nat.{max-zero}
 use Rattle.std.proofs.lemmas.Bool.{and_parts, eqb-true}
 use Rattle.std.proofs.lemmas.Bool.Decides.{nat_tests}
 use Rattle.mdcc_base.specs.Counts.{number_of}
-use Rattle.mdcc_messages.specs.declared.facts.Fact.{Fact}
-use Rattle.mdcc_protocol.specs.Facts.{floor_of}
+use Rattle.mdcc_def_messages.specs.declared.facts.Fact.{Fact}
+use Rattle.mdcc_def_protocol.specs.Facts.{floor_of}
 use Rattle.mdcc_given_back.specs.Counted.{TopFloorsRise, are_risen, is_top, top_floors}
 
 -- ---- numbers

@@ -11,12 +11,12 @@ use Rattle.mdcc_base.specs.declared.key.Key.{Key}
 use Rattle.mdcc_option.specs.declared.choices.Choice.{Choice}
 use Rattle.mdcc_struct.specs.Maps.{TxMap, union, value_of}
 use Rattle.mdcc_struct.specs.declared.options.Options.{Options}
-use Rattle.mdcc_messages.specs.declared.facts.Fact.{Fact}
-use Rattle.mdcc_protocol.specs.Facts.{current_of, is_finished, is_forgotten, is_heard, is_settled, write_set_in, write_sets_from, write_sets_of}
-use Rattle.mdcc_protocol.specs.Plain.{plain_unresolved_of}
+use Rattle.mdcc_def_messages.specs.declared.facts.Fact.{Fact}
+use Rattle.mdcc_def_protocol.specs.Facts.{current_of, is_finished, is_forgotten, is_heard, is_settled, write_set_of_mark, write_sets_from, write_sets_of}
+use Rattle.mdcc_def_protocol.specs.Plain.{plain_unresolved_of}
 use Rattle.mdcc_given_back.specs.Offers.{offers_unmarked}
-use Rattle.mdcc_fact_folds.proofs.Unheard.{kept_value, value-kept}
-use Rattle.mdcc_fact_folds.proofs.Joined.{joined}
+use Rattle.mdcc_theorem_fact_folds.proofs.Unheard.{kept_value, value-kept}
+use Rattle.mdcc_theorem_fact_folds.proofs.Joined.{joined}
 use Rattle.mdcc_given_back.specs.Rest.{IsRest, bare, is_bared, is_dropped, is_vote_past}
 use Rattle.mdcc_given_back.specs.Unsettled.{UnresolvedAtStays, UnresolvedByRest, UnresolvedStays, WriteSetByRest}
 use Rattle.mdcc_given_back.proofs.Alike.{kept-alike}
@@ -45,7 +45,7 @@ no-set : (k : Key) (v : ℕ) (b : Ballot) (options : Options) (offered : Option 
     → value_of (write_sets_from (Fact.Voted k v b options offered)) tx ≡ None
 no-set k v b options None tx has none = none-picked (λ choice. choice.write_set) options tx none
 no-set k v b options (Some choice) tx has none =
-    none-behind (filter_map write_set_in options) (choice.tx, choice.write_set) tx
+    none-behind (filter_map write_set_of_mark options) (choice.tx, choice.write_set) tx
     (none-picked (λ choice. choice.write_set) options tx none) (other-offer options choice tx has none)
 
 or-false : (a b : Bool) → (a || b) ≡ false → b ≡ false

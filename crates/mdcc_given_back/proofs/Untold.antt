@@ -13,9 +13,9 @@ use Rattle.mdcc_option.specs.declared.choices.Mark.{Mark}
 use Rattle.mdcc_struct.specs.Maps.{value_of}
 use Rattle.mdcc_struct.specs.declared.options.Options.{Options}
 use Rattle.mdcc_struct.proofs.Values.{value_of-union}
-use Rattle.mdcc_messages.specs.declared.facts.Fact.{Fact}
-use Rattle.mdcc_protocol.specs.Facts.{heard_of, marks_voted, outcome_in, votes_of}
-use Rattle.mdcc_fact_folds.proofs.Folded.{gathered}
+use Rattle.mdcc_def_messages.specs.declared.facts.Fact.{Fact}
+use Rattle.mdcc_def_protocol.specs.Facts.{heard_of, marks_voted, outcome_in, votes_of}
+use Rattle.mdcc_theorem_fact_folds.proofs.Folded.{gathered}
 use Rattle.mdcc_given_back.specs.Endings.{UnheardByRest, UnvotedByRest}
 use Rattle.mdcc_given_back.specs.Rest.{AreRest, IsLeft, IsRest, bare}
 use Rattle.mdcc_given_back.proofs.FirstHeard.{none-there}

@@ -17,15 +17,15 @@ use Rattle.mdcc_option.specs.declared.items.Item.{Item}
 use Rattle.mdcc_option.specs.declared.items.Token.{Token}
 use Rattle.mdcc_option.specs.declared.items.Update.{Update}
 use Rattle.mdcc_struct.specs.Maps.{TxMap, txs_of, union, value_of}
-use Rattle.mdcc_messages.specs.declared.facts.Fact.{Fact}
-use Rattle.mdcc_protocol.specs.Facts.{base_at, base_from, base_given, current_of, delta_given, deltas_at, deltas_from, executed_of, is_finished, is_needed, version_from, version_given}
-use Rattle.mdcc_protocol.specs.Marks.{Amounts}
-use Rattle.mdcc_protocol.specs.News.{keys_in}
-use Rattle.mdcc_fact_folds.proofs.Chosen.{or_right}
-use Rattle.mdcc_fact_folds.proofs.Deltas.{deltas-joined}
-use Rattle.mdcc_fact_folds.proofs.Folded.{gathered}
-use Rattle.mdcc_fact_folds.proofs.Joined.{joined}
-use Rattle.mdcc_fact_folds.specs.Held.{delta_by}
+use Rattle.mdcc_def_messages.specs.declared.facts.Fact.{Fact}
+use Rattle.mdcc_def_protocol.specs.Facts.{base_at, base_from, base_given, current_of, delta_given, deltas_at, deltas_from, executed_of, is_finished, is_needed, version_from, version_given}
+use Rattle.mdcc_def_protocol.specs.Marks.{Amounts}
+use Rattle.mdcc_def_protocol.specs.News.{keys_in}
+use Rattle.mdcc_theorem_fact_folds.proofs.Chosen.{or_right}
+use Rattle.mdcc_theorem_fact_folds.proofs.Deltas.{deltas-joined}
+use Rattle.mdcc_theorem_fact_folds.proofs.Folded.{gathered}
+use Rattle.mdcc_theorem_fact_folds.proofs.Joined.{joined}
+use Rattle.mdcc_theorem_fact_folds.specs.Held.{delta_by}
 use Rattle.mdcc_given_back.specs.Rest.{bare, is_bared, is_dropped}
 use Rattle.mdcc_given_back.specs.Versions.{BaseStays, CrowdingStays, CurrentStays, DeltaStays, DeltasStay, ExecutedStays, ForgottenStays, TokenStays}
 use Rattle.mdcc_given_back.proofs.Alike.{rest-says}

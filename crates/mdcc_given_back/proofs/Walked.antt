@@ -7,9 +7,9 @@ use Rattle.mdcc_base.specs.Ballot.{ballot_lt, ballot_max, fast_ballot, is_fast}
 use Rattle.mdcc_base.specs.Key.{key_eq}
 use Rattle.mdcc_base.specs.declared.identifiers.Ballot.{Ballot}
 use Rattle.mdcc_base.specs.declared.key.Key.{Key}
-use Rattle.mdcc_messages.specs.declared.facts.Fact.{Fact}
-use Rattle.mdcc_protocol.specs.Facts.{ballot_promised, ballot_voted, epoch_of, last_ballot, promise_of, promised_through, range_promised}
-use Rattle.mdcc_fact_folds.proofs.Chosen.{max_right, or_right}
+use Rattle.mdcc_def_messages.specs.declared.facts.Fact.{Fact}
+use Rattle.mdcc_def_protocol.specs.Facts.{ballot_promised, ballot_voted, epoch_of, last_ballot, promise_of, promised_through, range_promised}
+use Rattle.mdcc_theorem_fact_folds.proofs.Chosen.{max_right, or_right}
 use Rattle.mdcc_given_back.specs.Rest.{AreRest, BallotStays, EpochStays, IsLeft, PromiseStays, RangeStays, bare, is_bared, is_dropped, is_vote_past}
 
 abbrev pub put_together : {X : Type 0} → (X → X → X) → X → (Fact → X) → List Fact → X

@@ -2,11 +2,11 @@
 use Rattle.std.specs.List.{AllByRecursion}
 use Rattle.std.specs.Prelude.{◌≡◌, ◌≤◌, List, [], if◌then◌else◌, true, ◌∷◌}
 use Rattle.mdcc_base.specs.Counts.{sum_over}
-use Rattle.mdcc_messages.specs.Lengths.{cells_used}
-use Rattle.mdcc_messages.specs.WellFormed.{IsWellFormedFact}
-use Rattle.mdcc_messages.specs.declared.facts.Fact.{Fact}
-use Rattle.mdcc_protocol.specs.Cells.{cells_held, cells_left}
-use Rattle.mdcc_protocol.specs.Facts.{has_floor}
+use Rattle.mdcc_def_messages.specs.Lengths.{cells_used}
+use Rattle.mdcc_def_messages.specs.WellFormed.{IsWellFormedFact}
+use Rattle.mdcc_def_messages.specs.declared.facts.Fact.{Fact}
+use Rattle.mdcc_def_protocol.specs.Cells.{cells_held, cells_left}
+use Rattle.mdcc_def_protocol.specs.Facts.{has_floor}
 use Rattle.mdcc_given_back.specs.Rest.{AreRest, IsRest, bare, is_bared, is_dropped}
 
 -- each fact of which something is asked by all facts of the centre; a vote of which only the ballot is asked without its marks

@@ -2,11 +2,11 @@
 use Rattle.std.specs.List.{AllByRecursion}
 use Rattle.std.specs.Prelude.{◌≡◌, ◌≤◌, ◌+◌, Bool, List, [], false, filter, if◌then◌else◌, length, nat_lt, not, true, ℕ, ◌&&◌, ◌==◌, ◌∷◌}
 use Rattle.mdcc_base.specs.Counts.{number_of}
-use Rattle.mdcc_messages.specs.Lengths.{cells_needed, cells_used}
-use Rattle.mdcc_messages.specs.WellFormed.{IsWellFormedFact}
-use Rattle.mdcc_messages.specs.declared.facts.Fact.{Fact}
-use Rattle.mdcc_protocol.specs.Cells.{cells_held, cells_left}
-use Rattle.mdcc_protocol.specs.Facts.{floor_of, has_floor, is_floor}
+use Rattle.mdcc_def_messages.specs.Lengths.{cells_needed, cells_used}
+use Rattle.mdcc_def_messages.specs.WellFormed.{IsWellFormedFact}
+use Rattle.mdcc_def_messages.specs.declared.facts.Fact.{Fact}
+use Rattle.mdcc_def_protocol.specs.Cells.{cells_held, cells_left}
+use Rattle.mdcc_def_protocol.specs.Facts.{floor_of, has_floor, is_floor}
 use Rattle.mdcc_given_back.specs.Compact.{compacted}
 use Rattle.mdcc_given_back.specs.Growth.{tells_of_finished}
 use Rattle.mdcc_given_back.specs.Rest.{IsRest}

@@ -3,11 +3,11 @@ use Rattle.std.specs.List.{list_any}
 use Rattle.std.specs.Prelude.{◌≡◌, ◌&&◌, List, None, Some, false, if◌then◌else◌, not, true}
 use Rattle.mdcc_base.specs.declared.identifiers.TxId.{TxId}
 use Rattle.mdcc_option.specs.declared.choices.Outcome.{Outcome}
-use Rattle.mdcc_messages.specs.declared.facts.Fact.{Fact}
-use Rattle.mdcc_protocol.specs.Facts.{heard_of, is_finished, is_heard, is_idle, is_past, outcome_kept, shows_mark}
-use Rattle.mdcc_protocol.specs.Stores.{ended_of}
+use Rattle.mdcc_def_messages.specs.declared.facts.Fact.{Fact}
+use Rattle.mdcc_def_protocol.specs.Facts.{heard_of, is_finished, is_heard, is_idle, is_past, outcome_kept, shows_mark}
+use Rattle.mdcc_def_protocol.specs.Stores.{ended_of}
 use Rattle.mdcc_facts.specs.Adding.{is_heard_before, is_voted_before}
-use Rattle.mdcc_fact_folds.specs.Outcomes.{are_heard_once}
+use Rattle.mdcc_theorem_fact_folds.specs.Outcomes.{are_heard_once}
 use Rattle.mdcc_given_back.specs.Rest.{IsRest}
 
 -- what was heard of a transaction that is not idle is kept

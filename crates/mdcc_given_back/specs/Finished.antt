@@ -1,8 +1,8 @@
 -- What all centres have heard, of the facts that are left.
 use Rattle.std.specs.Prelude.{◌≡◌, ◌+◌, ◌<◌, ◌≤◌, ◌||◌, false, length, List, true, ℕ}
 use Rattle.mdcc_base.specs.declared.identifiers.TxId.{TxId}
-use Rattle.mdcc_messages.specs.declared.facts.Fact.{Fact}
-use Rattle.mdcc_protocol.specs.Facts.{floor_of, has_floor, heard_through_of, is_finished, is_heard, is_settled, settled_after}
+use Rattle.mdcc_def_messages.specs.declared.facts.Fact.{Fact}
+use Rattle.mdcc_def_protocol.specs.Facts.{floor_of, has_floor, heard_through_of, is_finished, is_heard, is_settled, settled_after}
 use Rattle.mdcc_given_back.specs.Rest.{IsRest}
 
 -- of each epoch the greatest floor is kept

@@ -1,8 +1,8 @@
 -- What is given back of the facts of a centre stays so when further facts come.
 use Rattle.std.specs.List.{list_any}
 use Rattle.std.specs.Prelude.{◌≡◌, Bool, List, false, true, ◌∷◌}
-use Rattle.mdcc_messages.specs.declared.facts.Fact.{Fact}
-use Rattle.mdcc_protocol.specs.Facts.{is_finished}
+use Rattle.mdcc_def_messages.specs.declared.facts.Fact.{Fact}
+use Rattle.mdcc_def_protocol.specs.Facts.{is_finished}
 use Rattle.mdcc_given_back.specs.Rest.{AreRest, IsRest, is_bared, is_dropped}
 
 -- a fact tells the outcome of a finished transaction, or has a mark of one

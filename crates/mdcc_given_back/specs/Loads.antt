@@ -5,12 +5,12 @@ use Rattle.mdcc_base.specs.TxId.{tx_eq}
 use Rattle.mdcc_base.specs.declared.identifiers.TxId.{TxId}
 use Rattle.mdcc_base.specs.declared.key.Key.{Key}
 use Rattle.mdcc_option.specs.declared.choices.Outcome.{Outcome}
-use Rattle.mdcc_messages.specs.WellFormed.{IsWellFormedFact}
-use Rattle.mdcc_messages.specs.declared.facts.Fact.{Fact}
-use Rattle.mdcc_protocol.specs.Facts.{current_of, deltas_at, is_idle, live_of}
-use Rattle.mdcc_protocol.specs.Plain.{plain_live_and_void, plain_live_of, plain_load_at}
-use Rattle.mdcc_protocol.specs.Stores.{load_at}
-use Rattle.mdcc_fact_folds.specs.Outcomes.{are_heard_once}
+use Rattle.mdcc_def_messages.specs.WellFormed.{IsWellFormedFact}
+use Rattle.mdcc_def_messages.specs.declared.facts.Fact.{Fact}
+use Rattle.mdcc_def_protocol.specs.Facts.{current_of, deltas_at, is_idle, live_of}
+use Rattle.mdcc_def_protocol.specs.Plain.{plain_live_and_void, plain_live_of, plain_load_at}
+use Rattle.mdcc_def_protocol.specs.Stores.{load_at}
+use Rattle.mdcc_theorem_fact_folds.specs.Outcomes.{are_heard_once}
 use Rattle.mdcc_given_back.specs.Rest.{IsRest}
 
 -- no delta of the version is of an idle transaction. Of such a one all facts say that it is void, and those that are left may not: they may have

@@ -9,14 +9,14 @@ use Rattle.mdcc_base.specs.declared.key.Key.{Key}
 use Rattle.mdcc_option.specs.declared.choices.Mark.{Mark}
 use Rattle.mdcc_struct.specs.Maps.{value_of}
 use Rattle.mdcc_struct.specs.declared.options.Options.{Options}
-use Rattle.mdcc_messages.specs.declared.facts.Fact.{Fact}
-use Rattle.mdcc_protocol.specs.Facts.{choice_known, current_of, entries_of, first_choice, is_finished, is_forgotten, last_ballot, last_vote, report_of, shown_of, vote_of, votes_of, without_forgotten}
-use Rattle.mdcc_protocol.specs.Marks.{accepts_in, rejects_in}
-use Rattle.mdcc_protocol.specs.Plain.{plain_entries_of, plain_mark_after}
-use Rattle.mdcc_protocol.specs.Stores.{entries_at, mark_after, mark_below}
+use Rattle.mdcc_def_messages.specs.declared.facts.Fact.{Fact}
+use Rattle.mdcc_def_protocol.specs.Facts.{choice_known, current_of, entries_of, first_choice_voted, is_finished, is_forgotten, last_ballot, last_vote, report_of, shown_of, vote_of, votes_of, without_forgotten}
+use Rattle.mdcc_def_protocol.specs.Marks.{accepts_in, rejects_in}
+use Rattle.mdcc_def_protocol.specs.Plain.{plain_entries_of, plain_mark_after}
+use Rattle.mdcc_def_protocol.specs.Stores.{entries_at, mark_after, mark_below}
 use Rattle.mdcc_given_back.specs.Offers.{offers_unmarked}
 use Rattle.mdcc_facts.specs.Past.{count_past}
-use Rattle.mdcc_fact_folds.specs.Outcomes.{are_heard_once}
+use Rattle.mdcc_theorem_fact_folds.specs.Outcomes.{are_heard_once}
 use Rattle.mdcc_given_back.specs.Rest.{IsRest}
 
 -- ---- by plain questions of what is left, and by which marks are forgotten
@@ -37,7 +37,7 @@ abbrev pub ChoiceByRest : Type 0
 ChoiceByRest =
     (rest facts : List Fact) (key : Key) (version : ℕ) (tx : TxId)
     → IsRest rest facts → list_any offers_unmarked facts ≡ false
-    → choice_known facts key version tx ≡ (if is_forgotten facts key version tx then None else first_choice rest key version tx)
+    → choice_known facts key version tx ≡ (if is_forgotten facts key version tx then None else first_choice_voted rest key version tx)
 
 abbrev pub ReportByRest : Type 0
 ReportByRest =

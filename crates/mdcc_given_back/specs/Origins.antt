@@ -1,7 +1,7 @@
 -- The epochs of which a sweep tells, by the facts that are left.
 use Rattle.std.specs.Prelude.{◌≡◌, List}
-use Rattle.mdcc_messages.specs.declared.facts.Fact.{Fact}
-use Rattle.mdcc_protocol.specs.Floors.{origins_of, sweep}
+use Rattle.mdcc_def_messages.specs.declared.facts.Fact.{Fact}
+use Rattle.mdcc_def_protocol.specs.Floors.{origins_of, sweep}
 use Rattle.mdcc_given_back.specs.Rest.{IsRest}
 
 -- an outcome is dropped where its transaction is finished: then a floor of its epoch is left

@@ -5,10 +5,10 @@ use Rattle.mdcc_base.specs.Ballot.{is_fast}
 use Rattle.mdcc_base.specs.declared.identifiers.Ballot.{Ballot}
 use Rattle.mdcc_base.specs.declared.key.Key.{Key}
 use Rattle.mdcc_struct.specs.declared.options.Options.{Options}
-use Rattle.mdcc_messages.specs.Lengths.{cells_needed}
-use Rattle.mdcc_messages.specs.declared.facts.Fact.{Fact}
-use Rattle.mdcc_protocol.specs.Cells.{cells_left}
-use Rattle.mdcc_protocol.specs.Facts.{current_of, epoch_of, floor_of, is_forgotten, is_idle, last_ballot, promise_of, promised_through}
+use Rattle.mdcc_def_messages.specs.Lengths.{cells_needed}
+use Rattle.mdcc_def_messages.specs.declared.facts.Fact.{Fact}
+use Rattle.mdcc_def_protocol.specs.Cells.{cells_left}
+use Rattle.mdcc_def_protocol.specs.Facts.{current_of, epoch_of, floor_of, is_forgotten, is_idle, last_ballot, promise_of, promised_through}
 
 -- whether all marks that a vote has are forgotten
 abbrev pub is_vote_past : List Fact → Key → ℕ → Options → Bool

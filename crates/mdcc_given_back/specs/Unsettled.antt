@@ -5,10 +5,10 @@ use Rattle.std.specs.List.{list_any}
 use Rattle.std.specs.Prelude.{◌≡◌, List, None, false, filter, if◌then◌else◌, not, ℕ}
 use Rattle.mdcc_base.specs.declared.identifiers.TxId.{TxId}
 use Rattle.mdcc_struct.specs.Maps.{value_of}
-use Rattle.mdcc_messages.specs.declared.facts.Fact.{Fact}
-use Rattle.mdcc_protocol.specs.Facts.{is_finished, unresolved_of}
-use Rattle.mdcc_protocol.specs.Plain.{plain_unresolved_of}
-use Rattle.mdcc_protocol.specs.Stores.{unresolved_at}
+use Rattle.mdcc_def_messages.specs.declared.facts.Fact.{Fact}
+use Rattle.mdcc_def_protocol.specs.Facts.{is_finished, unresolved_of}
+use Rattle.mdcc_def_protocol.specs.Plain.{plain_unresolved_of}
+use Rattle.mdcc_def_protocol.specs.Stores.{unresolved_at}
 use Rattle.mdcc_given_back.specs.Offers.{offers_unmarked}
 use Rattle.mdcc_given_back.specs.Rest.{IsRest}
 

@@ -5,11 +5,11 @@
 use Rattle.std.specs.Prelude.{◌≡◌, ◌≤◌, List, true, ℕ}
 use Rattle.mdcc_base.specs.declared.identifiers.TxId.{TxId}
 use Rattle.mdcc_base.specs.declared.key.Key.{Key}
-use Rattle.mdcc_messages.specs.declared.facts.Fact.{Fact}
-use Rattle.mdcc_protocol.specs.Facts.{base_of, current_of, deltas_at, executed_of, is_forgotten, token_of}
-use Rattle.mdcc_protocol.specs.News.{is_crowding}
-use Rattle.mdcc_protocol.specs.Stores.{delta_of}
-use Rattle.mdcc_fact_folds.specs.Outcomes.{are_heard_once}
+use Rattle.mdcc_def_messages.specs.declared.facts.Fact.{Fact}
+use Rattle.mdcc_def_protocol.specs.Facts.{base_of, current_of, deltas_at, executed_of, is_forgotten, token_of}
+use Rattle.mdcc_def_protocol.specs.News.{is_crowding}
+use Rattle.mdcc_def_protocol.specs.Stores.{delta_of}
+use Rattle.mdcc_theorem_fact_folds.specs.Outcomes.{are_heard_once}
 use Rattle.mdcc_given_back.specs.Rest.{IsRest}
 
 abbrev pub CurrentStays : Type 0

@@ -13,17 +13,17 @@ use Rattle.mdcc_struct.proofs.Votes.{ballot_eq-same}
 use Rattle.mdcc_struct.specs.Maps.{value_of}
 use Rattle.mdcc_struct.specs.Options.{accepts_in}
 use Rattle.mdcc_struct.specs.declared.options.Options.{Options}
-use Rattle.mdcc_messages.specs.declared.facts.Fact.{Fact}
-use Rattle.mdcc_protocol.specs.Facts.{live_mark}
-use Rattle.mdcc_protocol.specs.Plain.{plain_live_from}
-use Rattle.mdcc_protocol.specs.declared.fit.Load.{Load}
+use Rattle.mdcc_def_messages.specs.declared.facts.Fact.{Fact}
+use Rattle.mdcc_def_protocol.specs.Facts.{live_mark}
+use Rattle.mdcc_def_protocol.specs.Plain.{plain_live_from}
+use Rattle.mdcc_def_protocol.specs.declared.fit.Load.{Load}
 use Rattle.mdcc_escrow.specs.Weights.{with_live}
-use Rattle.mdcc_fact_folds.specs.Chains.{Covers, is_delta_in, is_of_instance}
-use Rattle.mdcc_fact_folds.specs.Live.{is_counted, is_live_by, load_steps}
-use Rattle.mdcc_fact_folds.specs.Votes.{with_ballot}
-use Rattle.mdcc_fact_folds.proofs.Chosen.{max_left}
-use Rattle.mdcc_fact_index.specs.Active.{is_active}
-use Rattle.mdcc_fact_index.specs.Entries.{is_any}
+use Rattle.mdcc_theorem_fact_folds.specs.Chains.{Covers, is_delta_in, is_of_instance}
+use Rattle.mdcc_theorem_fact_folds.specs.Live.{is_live_by, is_live_counted, load_steps}
+use Rattle.mdcc_theorem_fact_folds.specs.Votes.{with_voted_ballot}
+use Rattle.mdcc_theorem_fact_folds.proofs.Chosen.{max_left}
+use Rattle.mdcc_cells_indices.specs.Active.{is_active}
+use Rattle.mdcc_cells_indices.specs.Entries.{is_any}
 use Rattle.mdcc_index.proofs.Stepped.{deltas-covered}
 
 pub any-kept : (facts : List Fact) → filter is_any facts ≡ facts
@@ -55,7 +55,7 @@ no-live key version (Fact.Voted k v b options offered) h =
 no-live key version (Fact.Heard tx outcome) h = absurd (cc)
 no-live key version (Fact.Adopted k v item adds) h = absurd (cc)
 
-pub same-ballot : (key : Key) (version : ℕ) (below ballot : Ballot) (fact : Fact) → is_active fact ≡ false → with_ballot key version below ballot fact ≡ ballot
+pub same-ballot : (key : Key) (version : ℕ) (below ballot : Ballot) (fact : Fact) → is_active fact ≡ false → with_voted_ballot key version below ballot fact ≡ ballot
 same-ballot key version below ballot (Fact.Booted epoch) h = absurd (cc)
 same-ballot key version below ballot (Fact.Floor origin era upto) h = absurd (cc)
 same-ballot key version below ballot (Fact.Promised k low high b) h = absurd (cc)
@@ -137,7 +137,7 @@ module _ (keep : Fact → Bool) (key : Key) (version : ℕ) where
             rw (active, kept) (
             ap (λ counted. load_steps seen void key version (fold (with_live seen) load (filter counted (plain_live_from key version fact))) (filter keep (filter is_active facts)))
             (λ i (e : TxId × Update). not (void e.0) && not (any-active e.0 facts i))
-            ∙ load-active (fold (with_live seen) load (filter (λ e. is_counted void (filter keep facts) key version e.0) (plain_live_from key version fact))) facts
+            ∙ load-active (fold (with_live seen) load (filter (λ e. is_live_counted void (filter keep facts) key version e.0) (plain_live_from key version fact))) facts
             )
         | inr left ↦ rw (active, left) (load-active load facts)
       ]
@@ -145,7 +145,7 @@ module _ (keep : Fact → Bool) (key : Key) (version : ℕ) where
         | inl kept ↦
             rw (idle, kept) (
             load-active load facts
-            ∙ sym (ap (λ live. load_steps seen void key version (fold (with_live seen) load (filter (λ e. is_counted void (filter keep facts) key version e.0) live)) (filter keep facts))
+            ∙ sym (ap (λ live. load_steps seen void key version (fold (with_live seen) load (filter (λ e. is_live_counted void (filter keep facts) key version e.0) live)) (filter keep facts))
             (no-live key version fact idle))
             )
         | inr left ↦ rw (idle, left) (load-active load facts)

@@ -1,22 +1,22 @@
 -- A store represents one more fact once each of its parts has it.
 use Rattle.std.proofs.Common.{◌≡◌, ◌++◌, ◌∷◌, ℕ, false, List, [], is_some, length, sym, ap, ◌∙◌}
-use Rattle.mdcc_messages.specs.Spelling.{fact_bytes}
-use Rattle.mdcc_messages.specs.declared.facts.Fact.{Fact}
-use Rattle.mdcc_protocol.specs.News.{is_crowding}
+use Rattle.mdcc_def_messages.specs.Spelling.{fact_bytes}
+use Rattle.mdcc_def_messages.specs.declared.facts.Fact.{Fact}
+use Rattle.mdcc_def_protocol.specs.News.{is_crowding}
 use Rattle.mdcc_facts.specs.Adding.{MayBeAdded}
 use Rattle.mdcc_facts.proofs.Crowding.{few_added}
-use Rattle.mdcc_fact_folds.specs.Promises.{next_epoch}
-use Rattle.mdcc_fact_folds.proofs.Walked.{epoch-updates}
-use Rattle.mdcc_fact_folds.proofs.Kept.{stay-added}
-use Rattle.mdcc_fact_tables.specs.HeldVersions.{HoldsVersions}
-use Rattle.mdcc_fact_tables.specs.UnresolvedNumbers.{ListsUnresolved, TellsHeard}
-use Rattle.mdcc_fact_index.specs.Active.{is_active}
-use Rattle.mdcc_fact_index.specs.Entries.{entries_in, entries_kept, entries_of}
-use Rattle.mdcc_fact_index.specs.Heard.{AreHeard, number_found}
-use Rattle.mdcc_fact_index.specs.Promises.{ArePromised}
-use Rattle.mdcc_fact_index.specs.Tallies.{HoldsTallies}
-use Rattle.mdcc_fact_index.proofs.Endings.{tells-heard}
-use Rattle.mdcc_fact_index.proofs.Entered.{held-length}
+use Rattle.mdcc_theorem_fact_folds.specs.Promises.{next_epoch}
+use Rattle.mdcc_theorem_fact_folds.proofs.Walked.{epoch-updates}
+use Rattle.mdcc_theorem_fact_folds.proofs.Kept.{stay-added}
+use Rattle.mdcc_cells_tables.specs.HeldVersions.{HoldsVersions}
+use Rattle.mdcc_cells_tables.specs.UnresolvedNumbers.{ListsUnresolved, TellsHeard}
+use Rattle.mdcc_cells_indices.specs.Active.{is_active}
+use Rattle.mdcc_cells_indices.specs.Entries.{entries_in, entries_kept, entries_of_facts}
+use Rattle.mdcc_cells_indices.specs.Heard.{AreHeard, number_found}
+use Rattle.mdcc_cells_indices.specs.Promises.{ArePromised}
+use Rattle.mdcc_cells_indices.specs.Tallies.{HoldsTallies}
+use Rattle.mdcc_cells_indices.proofs.Endings.{tells-heard}
+use Rattle.mdcc_cells_indices.proofs.Entered.{held-length}
 use Rattle.mdcc_index.specs.Stores.{Represents, Store}
 
 -- each part of a store has one more fact, of this number
@@ -43,7 +43,7 @@ represents-more old new facts fact number adds may free kept =
       };
       outcomes = adds.outcomes facts kept.outcomes long;
       promises = adds.promises facts kept.promises;
-      instances = adds.instances ∙ ap (λ es. entries_in fact number ++ es) kept.instances ∙ ap (λ n. entries_in fact n ++ entries_of facts) long;
+      instances = adds.instances ∙ ap (λ es. entries_in fact number ++ es) kept.instances ∙ ap (λ n. entries_in fact n ++ entries_of_facts facts) long;
       active = adds.active facts kept.active long;
       tallies = adds.tallies facts kept.tallies may;
       held = adds.held facts kept.held long;

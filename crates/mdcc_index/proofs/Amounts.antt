@@ -4,16 +4,16 @@ use Rattle.std.specs.List.{filter, fold}
 use Rattle.std.specs.Option.{option_or}
 use Rattle.mdcc_base.specs.declared.identifiers.TxId.{TxId}
 use Rattle.mdcc_base.specs.declared.key.Key.{Key}
-use Rattle.mdcc_messages.specs.declared.facts.Fact.{Fact}
-use Rattle.mdcc_protocol.specs.Facts.{deltas_at, deltas_from}
+use Rattle.mdcc_def_messages.specs.declared.facts.Fact.{Fact}
+use Rattle.mdcc_def_protocol.specs.Facts.{deltas_at, deltas_from}
 use Rattle.mdcc_struct.proofs.Values.{value_of-union}
 use Rattle.mdcc_struct.specs.Maps.{value_of}
-use Rattle.mdcc_fact_folds.specs.Chains.{Covers, is_delta_in}
-use Rattle.mdcc_fact_folds.specs.Held.{older_amounts}
-use Rattle.mdcc_fact_folds.proofs.Chosen.{or_assoc, or_left, or_right}
-use Rattle.mdcc_fact_folds.proofs.Deltas.{no_deltas}
-use Rattle.mdcc_fact_folds.proofs.Folded.{gathered, gathered-walk}
-use Rattle.mdcc_fact_folds.proofs.Ignored.{left_out}
+use Rattle.mdcc_theorem_fact_folds.specs.Chains.{Covers, is_delta_in}
+use Rattle.mdcc_theorem_fact_folds.specs.Held.{older_amounts}
+use Rattle.mdcc_theorem_fact_folds.proofs.Chosen.{or_assoc, or_left, or_right}
+use Rattle.mdcc_theorem_fact_folds.proofs.Deltas.{no_deltas}
+use Rattle.mdcc_theorem_fact_folds.proofs.Folded.{gathered, gathered-walk}
+use Rattle.mdcc_theorem_fact_folds.proofs.Ignored.{left_out}
 
 amounts-gathered : (key : Key) (version : ℕ) (tx : TxId) (facts : List Fact)
     → value_of (deltas_at facts key version) tx ≡ gathered option_or None (λ fact. value_of (deltas_from key version fact) tx) facts

@@ -1,15 +1,15 @@
 -- A store that has just been made.
 use Rattle.std.proofs.Common.{◌≡◌, ◌*◌, ℕ, [], length, refl, ap, arith}
-use Rattle.mdcc_fact_cells.specs.Stored.{Stored}
-use Rattle.mdcc_chains.specs.Unresolved.{Numbered}
-use Rattle.mdcc_fact_tables.specs.HeldVersions.{HoldsVersions, Versions, no_versions}
-use Rattle.mdcc_fact_tables.specs.UnresolvedNumbers.{ListsUnresolved}
-use Rattle.mdcc_fact_index.specs.Entries.{Entries}
-use Rattle.mdcc_fact_index.specs.Heard.{HeardTxs}
-use Rattle.mdcc_fact_index.specs.Promises.{Kept}
-use Rattle.mdcc_fact_index.specs.Tallies.{HoldsTallies, Tallied}
-use Rattle.mdcc_fact_folds.proofs.Kept.{none-added}
-use Rattle.mdcc_index.specs.Stores.{HasRoom, Represents, store_of}
+use Rattle.mdcc_cells_facts.specs.Stored.{Stored}
+use Rattle.mdcc_cells_chains.specs.Unresolved.{Numbered}
+use Rattle.mdcc_cells_tables.specs.HeldVersions.{HoldsVersions, Versions, no_versions}
+use Rattle.mdcc_cells_tables.specs.UnresolvedNumbers.{ListsUnresolved}
+use Rattle.mdcc_cells_indices.specs.Entries.{Entries}
+use Rattle.mdcc_cells_indices.specs.Heard.{HeardTxs}
+use Rattle.mdcc_cells_indices.specs.Promises.{Kept}
+use Rattle.mdcc_cells_indices.specs.Tallies.{HoldsTallies, Tallied}
+use Rattle.mdcc_theorem_fact_folds.proofs.Kept.{none-added}
+use Rattle.mdcc_index.specs.Stores.{HasStoreRoom, Represents, store_of}
 
 module _ (cells entries : ℕ) (stored : Stored) (outcomes : HeardTxs) (promises : Kept) (instances active : Entries) (tallies : Tallied) (held : Versions) (unresolved : Numbered)
     (cells-are : stored ≡ record { spare = cells; encodings = [] })
@@ -35,7 +35,7 @@ module _ (cells entries : ℕ) (stored : Stored) (outcomes : HeardTxs) (promises
     few = λ key. omega arith;
   }
 
-  pub room-for-all : entries ≡ cells * 2 → HasRoom (store_of stored outcomes promises instances active tallies held unresolved 0)
+  pub room-for-all : entries ≡ cells * 2 → HasStoreRoom (store_of stored outcomes promises instances active tallies held unresolved 0)
   room-for-all twice = record {
     outcomes = omega (arith, ap (λ o. length o.txs.keys) outcomes-are, ap (λ o. o.txs.room) outcomes-are, ap (λ c. c.spare) cells-are);
     promises = omega (arith, ap (λ p. length p.keys.keys) promises-are, ap (λ p. p.keys.room) promises-are, ap (λ c. c.spare) cells-are);

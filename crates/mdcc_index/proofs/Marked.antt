@@ -5,7 +5,7 @@ use Rattle.std.specs.Prelude.{slice_get}
 use Rattle.mdcc_base.specs.declared.identifiers.Ballot.{Ballot}
 use Rattle.mdcc_base.specs.declared.identifiers.TxId.{TxId}
 use Rattle.mdcc_option.specs.declared.choices.Mark.{Mark}
-use Rattle.mdcc_fact_folds.specs.Votes.{marks_further}
+use Rattle.mdcc_theorem_fact_folds.specs.Votes.{marks_further}
 
 module _ (next : Option TxId → Option (Ballot × TxId × Mark)) where
   some-found : (found : Option (Ballot × TxId × Mark)) (less : ℕ) (tx : TxId) → option_map (λ mark. mark.1) found ≡ Some tx

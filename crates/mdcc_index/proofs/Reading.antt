@@ -8,17 +8,17 @@ use Rattle.mdcc_base.specs.declared.identifiers.TxId.{TxId}
 use Rattle.mdcc_base.specs.declared.key.Key.{Key}
 use Rattle.mdcc_option.specs.declared.choices.Choice.{Choice}
 use Rattle.mdcc_option.specs.declared.choices.Outcome.{Outcome}
-use Rattle.mdcc_messages.specs.declared.facts.Fact.{Fact}
-use Rattle.mdcc_protocol.specs.Facts.{heard_of}
-use Rattle.mdcc_protocol.specs.Plain.{plain_ended_of, plain_is_void}
-use Rattle.mdcc_protocol.specs.Marks.{is_abort, is_commit}
-use Rattle.mdcc_fact_cells.specs.Holding.{Holds}
-use Rattle.mdcc_fact_folds.specs.Live.{is_ordered}
-use Rattle.mdcc_fact_index.specs.Heard.{AreHeard, HeardTxs, ended_told, is_commit_spelled, number_found}
-use Rattle.mdcc_fact_index.proofs.Endings.{answer-commit, answer-none}
+use Rattle.mdcc_def_messages.specs.declared.facts.Fact.{Fact}
+use Rattle.mdcc_def_protocol.specs.Facts.{heard_of}
+use Rattle.mdcc_def_protocol.specs.Plain.{plain_ended_of, plain_is_void}
+use Rattle.mdcc_def_protocol.specs.Marks.{is_abort, is_commit}
+use Rattle.mdcc_cells_facts.specs.Holding.{HoldsEncodings}
+use Rattle.mdcc_theorem_fact_folds.specs.Live.{is_ordered}
+use Rattle.mdcc_cells_indices.specs.Heard.{AreHeard, HeardTxs, ended_told, is_commit_spelled, number_found}
+use Rattle.mdcc_cells_indices.proofs.Endings.{answer-commit, answer-none}
 use Rattle.mdcc_index.specs.Stores.{Represents, Store, is_abort_ended, is_void_told}
-use Rattle.mdcc_chains.specs.Walks.{entry_at}
-use Rattle.mdcc_fact_index.proofs.Entered.{fact_at}
+use Rattle.mdcc_cells_chains.specs.Walks.{entry_at}
+use Rattle.mdcc_cells_indices.proofs.Entered.{fact_at}
 
 pub entry-there : (facts : List Fact) (number : ℕ) → number < length facts → entry_at facts number ≡ Some (fact_at facts number)
 entry-there [] number within = absurd (omega arith)
@@ -43,7 +43,7 @@ any-at test (c ∷ choices) (suc i) choice within at passes = later (test c.key)
 
 -- ---- whether a transaction is void
 
-ended-known : (encodings : List (List ℕ)) (index : HeardTxs) (facts : List Fact) (tx : TxId) → Holds encodings facts → AreHeard index facts → ended_told encodings index tx ≡ plain_ended_of facts tx
+ended-known : (encodings : List (List ℕ)) (index : HeardTxs) (facts : List Fact) (tx : TxId) → HoldsEncodings encodings facts → AreHeard index facts → ended_told encodings index tx ≡ plain_ended_of facts tx
 ended-known encodings index facts tx holds heard = by (number_found index tx) refl
   where
     by : (found : Option ℕ) → number_found index tx ≡ found → option_map (λ number. is_commit_spelled (get_or encodings number [])) found ≡ plain_ended_of facts tx

@@ -7,18 +7,18 @@ use Rattle.mdcc_base.specs.declared.identifiers.TxId.{TxId}
 use Rattle.mdcc_base.specs.declared.key.Key.{Key}
 use Rattle.mdcc_option.specs.declared.choices.Choice.{Choice}
 use Rattle.mdcc_option.specs.declared.choices.Mark.{Mark}
-use Rattle.mdcc_messages.specs.declared.facts.Fact.{Fact}
+use Rattle.mdcc_def_messages.specs.declared.facts.Fact.{Fact}
 use Rattle.mdcc_struct.specs.declared.options.Options.{Options}
-use Rattle.mdcc_fact_folds.specs.Chains.{Covers, is_of_instance, is_delta_in, is_vote_in}
-use Rattle.mdcc_fact_folds.specs.Live.{with_count}
-use Rattle.mdcc_fact_folds.specs.Votes.{least_above, older_choice, older_mark, older_vote, with_ballot}
-use Rattle.mdcc_fact_folds.proofs.Covered.{covers-deltas, covers-votes}
-use Rattle.mdcc_vote_steps.specs.declared.ballots.WithBallot.{WithBallot}
-use Rattle.mdcc_vote_steps.specs.declared.older.OlderChoice.{OlderChoice}
-use Rattle.mdcc_vote_steps.specs.declared.older.OlderMark.{OlderMark}
-use Rattle.mdcc_vote_steps.specs.declared.older.OlderVote.{OlderVote}
-use Rattle.mdcc_vote_steps.specs.declared.tallies.LeastAbove.{LeastAbove}
-use Rattle.mdcc_vote_steps.specs.declared.tallies.WithCount.{WithCount}
+use Rattle.mdcc_theorem_fact_folds.specs.Chains.{Covers, is_of_instance, is_delta_in, is_vote_in}
+use Rattle.mdcc_theorem_fact_folds.specs.Live.{with_count}
+use Rattle.mdcc_theorem_fact_folds.specs.Votes.{least_above, older_choice, older_mark, older_vote, with_voted_ballot}
+use Rattle.mdcc_theorem_fact_folds.proofs.Covered.{covers-deltas, covers-votes}
+use Rattle.mdcc_cells_vote_walk.specs.declared.ballots.WithBallot.{WithBallot}
+use Rattle.mdcc_cells_vote_walk.specs.declared.older.OlderChoice.{OlderChoice}
+use Rattle.mdcc_cells_vote_walk.specs.declared.older.OlderMark.{OlderMark}
+use Rattle.mdcc_cells_vote_walk.specs.declared.older.OlderVote.{OlderVote}
+use Rattle.mdcc_cells_vote_walk.specs.declared.tallies.LeastAbove.{LeastAbove}
+use Rattle.mdcc_cells_vote_walk.specs.declared.tallies.WithCount.{WithCount}
 
 -- the facts of an instance are its votes, and those that bring deltas there
 pub votes-covered : (key : Key) (version : ℕ) → Covers (is_of_instance key version) (is_vote_in key version)
@@ -35,10 +35,10 @@ module _ (key : Key) (version : ℕ) where
   vote-stepped tx found (fact ∷ facts) = vote-stepped tx (older_vote key version tx found fact) facts
 
   pub ballot-stepped : (below ballot : Ballot) (facts : List Fact)
-      → (fold (λ (s : WithBallot) fact. record s { ballot = with_ballot s.key s.version s.below s.ballot fact }) (record { key = key; version = version; below = below; ballot = ballot }) facts).ballot
-      ≡ fold (with_ballot key version below) ballot facts
+      → (fold (λ (s : WithBallot) fact. record s { ballot = with_voted_ballot s.key s.version s.below s.ballot fact }) (record { key = key; version = version; below = below; ballot = ballot }) facts).ballot
+      ≡ fold (with_voted_ballot key version below) ballot facts
   ballot-stepped below ballot [] = refl
-  ballot-stepped below ballot (fact ∷ facts) = ballot-stepped below (with_ballot key version below ballot fact) facts
+  ballot-stepped below ballot (fact ∷ facts) = ballot-stepped below (with_voted_ballot key version below ballot fact) facts
 
   pub choice-stepped : (tx : TxId) (found : Option Choice) (facts : List Fact)
       → (fold (λ (s : OlderChoice) fact. record s { found = older_choice s.key s.version s.tx s.found fact }) (record { key = key; version = version; tx = tx; found = found }) facts).found

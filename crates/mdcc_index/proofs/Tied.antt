@@ -1,13 +1,13 @@
 -- The numbers in a store are those of facts that it has.
 use Rattle.std.proofs.Common.{List, [], ◌∷◌, length, sym, arith, subst}
-use Rattle.mdcc_messages.specs.declared.facts.Fact.{Fact}
-use Rattle.mdcc_fact_tables.specs.HeldVersions.{AreGivenBelow}
-use Rattle.mdcc_fact_tables.specs.UnresolvedNumbers as unresolved
-use Rattle.mdcc_fact_index.specs.Active.{is_active}
-use Rattle.mdcc_fact_index.specs.Entries.{AreBelow, is_any}
-use Rattle.mdcc_fact_index.specs.Heard.{AreNumbersBelow, heard_numbers}
-use Rattle.mdcc_fact_index.proofs.Endings.{below-by}
-use Rattle.mdcc_fact_index.proofs.Entered.{entries-below, held-length}
+use Rattle.mdcc_def_messages.specs.declared.facts.Fact.{Fact}
+use Rattle.mdcc_cells_tables.specs.HeldVersions.{AreGivenBelow}
+use Rattle.mdcc_cells_tables.specs.UnresolvedNumbers as unresolved
+use Rattle.mdcc_cells_indices.specs.Active.{is_active}
+use Rattle.mdcc_cells_indices.specs.Entries.{AreBelow, is_any}
+use Rattle.mdcc_cells_indices.specs.Heard.{AreNumbersBelow, heard_numbers}
+use Rattle.mdcc_cells_indices.proofs.Endings.{below-by}
+use Rattle.mdcc_cells_indices.proofs.Entered.{entries-below, held-length}
 use Rattle.mdcc_index.specs.Stores.{Represents, Store}
 
 numbers-below : (facts : List Fact) → AreNumbersBelow (length facts) (heard_numbers facts)
@@ -34,6 +34,6 @@ module _ (store : Store) (facts : List Fact) (kept : Represents store facts) whe
   pub given-below : AreGivenBelow (length store.cells.encodings) store.held
   given-below key some = omega (arith, (kept.held key).number some, held-length store.cells.encodings facts kept.cells)
 
-  pub unresolved-below : unresolved.AreBelow (length store.cells.encodings) store.unresolved.entries
+  pub unresolved-below : unresolved.AreBelowNumber (length store.cells.encodings) store.unresolved.entries
   unresolved-below =
-      subst (λ bound. unresolved.AreBelow bound store.unresolved.entries) (sym (held-length store.cells.encodings facts kept.cells)) kept.unresolved.numbers
+      subst (λ bound. unresolved.AreBelowNumber bound store.unresolved.entries) (sym (held-length store.cells.encodings facts kept.cells)) kept.unresolved.numbers

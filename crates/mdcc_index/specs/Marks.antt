@@ -6,8 +6,8 @@ use Rattle.mdcc_base.specs.declared.identifiers.Ballot.{Ballot}
 use Rattle.mdcc_base.specs.declared.identifiers.TxId.{TxId}
 use Rattle.mdcc_base.specs.declared.key.Key.{Key}
 use Rattle.mdcc_option.specs.declared.choices.Mark.{Mark}
-use Rattle.mdcc_messages.specs.declared.facts.Fact.{Fact}
-use Rattle.mdcc_fact_folds.specs.Votes.{least_above, older_mark}
+use Rattle.mdcc_def_messages.specs.declared.facts.Fact.{Fact}
+use Rattle.mdcc_theorem_fact_folds.specs.Votes.{least_above, older_mark}
 
 -- a walk for the transaction, and one for its mark
 abbrev pub next_marked : Key → ℕ → Ballot → Option TxId → List Fact → Option (Ballot × TxId × Mark)

@@ -2,19 +2,19 @@
 use Rattle.std.specs.Prelude.{List, Option, None, Some, Bool, false, not, ◌≡◌, ◌+◌, ◌*◌, ◌≤◌, ℕ, length}
 use Rattle.mdcc_base.specs.declared.identifiers.TxId.{TxId}
 use Rattle.mdcc_base.specs.declared.key.Key.{Key}
-use Rattle.mdcc_messages.specs.declared.facts.Fact.{Fact}
-use Rattle.mdcc_protocol.specs.Facts.{epoch_of, executed_of}
-use Rattle.mdcc_chains.specs.Unresolved.{Numbered}
-use Rattle.mdcc_fact_cells.specs.Holding.{Holds}
-use Rattle.mdcc_fact_cells.specs.Stored.{Stored}
-use Rattle.mdcc_fact_folds.specs.Added.{AreAdded}
-use Rattle.mdcc_fact_tables.specs.HeldVersions.{HoldsVersions, Versions}
-use Rattle.mdcc_fact_tables.specs.UnresolvedNumbers.{ListsUnresolved}
-use Rattle.mdcc_fact_index.specs.Active.{is_active}
-use Rattle.mdcc_fact_index.specs.Entries.{Entries, entries_kept, entries_of}
-use Rattle.mdcc_fact_index.specs.Heard.{AreHeard, HeardTxs, ended_told}
-use Rattle.mdcc_fact_index.specs.Promises.{ArePromised, Kept}
-use Rattle.mdcc_fact_index.specs.Tallies.{HoldsTallies, Tallied}
+use Rattle.mdcc_def_messages.specs.declared.facts.Fact.{Fact}
+use Rattle.mdcc_def_protocol.specs.Facts.{epoch_of, executed_of}
+use Rattle.mdcc_cells_chains.specs.Unresolved.{Numbered}
+use Rattle.mdcc_cells_facts.specs.Holding.{HoldsEncodings}
+use Rattle.mdcc_cells_facts.specs.Stored.{Stored}
+use Rattle.mdcc_theorem_fact_folds.specs.Added.{AreAdded}
+use Rattle.mdcc_cells_tables.specs.HeldVersions.{HoldsVersions, Versions}
+use Rattle.mdcc_cells_tables.specs.UnresolvedNumbers.{ListsUnresolved}
+use Rattle.mdcc_cells_indices.specs.Active.{is_active}
+use Rattle.mdcc_cells_indices.specs.Entries.{Entries, entries_kept, entries_of_facts}
+use Rattle.mdcc_cells_indices.specs.Heard.{AreHeard, HeardTxs, ended_told}
+use Rattle.mdcc_cells_indices.specs.Promises.{ArePromised, Kept}
+use Rattle.mdcc_cells_indices.specs.Tallies.{HoldsTallies, Tallied}
 
 -- the facts in their cells, and what is found without reading them
 pub record Store : Type 0 where
@@ -34,10 +34,10 @@ store_of cells outcomes promises instances active tallies held unresolved epoch 
 
 -- the store has these facts, the newest first
 pub record Represents (store : Store) (facts : List Fact) : Type 0 where
-  pub cells : Holds store.cells.encodings facts
+  pub cells : HoldsEncodings store.cells.encodings facts
   pub outcomes : AreHeard store.outcomes facts
   pub promises : ArePromised store.promises facts
-  pub instances : store.instances.entries ≡ entries_of facts
+  pub instances : store.instances.entries ≡ entries_of_facts facts
   pub active : store.active.entries ≡ entries_kept is_active facts
   pub tallies : HoldsTallies store.tallies facts
   pub held : HoldsVersions store.held facts
@@ -47,7 +47,7 @@ pub record Represents (store : Store) (facts : List Fact) : Type 0 where
   pub few : (key : Key) → length (executed_of facts key) ≤ 64
 
 -- for each spare cell there is room for what a fact may bring
-pub record HasRoom (store : Store) : Type 0 where
+pub record HasStoreRoom (store : Store) : Type 0 where
   pub outcomes : length store.outcomes.txs.keys + store.cells.spare ≤ store.outcomes.txs.room
   pub promises : length store.promises.keys.keys + store.cells.spare ≤ store.promises.keys.room
   pub instances : length store.instances.entries + 2 * store.cells.spare ≤ store.instances.room
@@ -60,7 +60,7 @@ pub record HasRoom (store : Store) : Type 0 where
 pub record IsStore (store : Store) : Type 0 where
   pub facts : List Fact
   pub represented : Represents store facts
-  pub room : HasRoom store
+  pub room : HasStoreRoom store
 
 -- whether a transaction was aborted, by the fact that is found
 abbrev pub is_abort_ended : Option Bool → Bool

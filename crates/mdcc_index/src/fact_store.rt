@@ -1,15 +1,15 @@
 //! The questions of a store of facts, answered from cells.
 use crate::PoolFacts;
 use mdcc_base::{Ballot, HeapList, Key, Memory, TxId};
+use mdcc_def_messages::Fact;
+use mdcc_def_protocol::{Load, StoreFault};
 use mdcc_facts::FactStore;
-use mdcc_messages::Fact;
 use mdcc_option::{Choice, Delta, Item, Mark, Outcome, Seen, WriteSet};
-use mdcc_protocol::{Load, StoreFault};
 use mdcc_struct::Options;
 use std::alloc::Global;
 
 impl FactStore for PoolFacts {
-    ghost use Rattle.mdcc_messages.specs.Lengths.{cells_needed};
+    ghost use Rattle.mdcc_def_messages.specs.Lengths.{cells_needed};
     ghost use Rattle.mdcc_index.specs.Stores.{Represents};
 
     ghost stands = { Represents };
@@ -30,7 +30,7 @@ impl FactStore for PoolFacts {
         self.promised(key, version, ballot)
     }
 
-    #[tactic(auto, using(mdcc_protocol::proofs::Plain::vote_plain))]
+    #[tactic(auto, using(mdcc_def_protocol::proofs::Plain::vote_plain))]
     fn vote_of(&self, key: &Key, version: u64, tx: TxId) -> Option<(Ballot, Mark)> {
         self.vote_of(key, version, tx)
     }
@@ -39,7 +39,7 @@ impl FactStore for PoolFacts {
         self.voted_below(key, version, below)
     }
 
-    #[tactic(auto, using(mdcc_protocol::proofs::Plain::shown_plain))]
+    #[tactic(auto, using(mdcc_def_protocol::proofs::Plain::shown_plain))]
     fn votes(
         &self,
         alloc: Global,
@@ -55,22 +55,22 @@ impl FactStore for PoolFacts {
         self.count_voted(key, version, ballot, options)
     }
 
-    #[tactic(auto, using(mdcc_protocol::proofs::Plain::settled_plain))]
+    #[tactic(auto, using(mdcc_def_protocol::proofs::Plain::settled_plain))]
     fn is_settled(&self, tx: TxId) -> bool {
         self.is_heard(tx)
     }
 
-    #[tactic(auto, using(mdcc_facts::proofs::Unfinished::heard_plain, mdcc_protocol::proofs::Plain::finished_none))]
+    #[tactic(auto, using(mdcc_facts::proofs::Unfinished::heard_plain, mdcc_def_protocol::proofs::Plain::finished_none))]
     fn finished(&self, _tx: TxId) -> bool {
         false
     }
 
-    #[tactic(auto, using(mdcc_protocol::proofs::Plain::ended_plain))]
+    #[tactic(auto, using(mdcc_def_protocol::proofs::Plain::ended_plain))]
     fn ended(&self, tx: TxId) -> Option<bool> {
         self.ended(tx)
     }
 
-    #[tactic(auto, using(mdcc_protocol::proofs::Plain::kept_plain))]
+    #[tactic(auto, using(mdcc_def_protocol::proofs::Plain::kept_plain))]
     fn heard(&self, tx: TxId) -> Option<Outcome> {
         self.heard(tx)
     }
@@ -91,17 +91,17 @@ impl FactStore for PoolFacts {
         self.delta(key, tx)
     }
 
-    #[tactic(auto, using(mdcc_protocol::proofs::Plain::load_plain))]
+    #[tactic(auto, using(mdcc_def_protocol::proofs::Plain::load_plain))]
     fn load(&self, key: &Key, version: u64, seen: &[TxId]) -> Load {
         self.load(key, version, seen)
     }
 
-    #[tactic(auto, using(mdcc_protocol::proofs::Plain::entries_at_plain))]
+    #[tactic(auto, using(mdcc_def_protocol::proofs::Plain::entries_at_plain))]
     fn entries(&self, key: &Key, version: u64) -> (u32, u32) {
         self.entries(key, version)
     }
 
-    #[tactic(auto, using(mdcc_protocol::proofs::Plain::mark_plain))]
+    #[tactic(auto, using(mdcc_def_protocol::proofs::Plain::mark_plain))]
     fn marks(
         &self,
         key: &Key,
@@ -112,7 +112,7 @@ impl FactStore for PoolFacts {
         self.marks(key, version, below, place)
     }
 
-    #[tactic(auto, using(mdcc_protocol::proofs::Plain::next_mark_plain))]
+    #[tactic(auto, using(mdcc_def_protocol::proofs::Plain::next_mark_plain))]
     fn mark_after(
         &self,
         key: &Key,
@@ -123,22 +123,22 @@ impl FactStore for PoolFacts {
         self.mark_after(key, version, below, last)
     }
 
-    #[tactic(auto, using(mdcc_protocol::proofs::Plain::unresolved_at_plain))]
+    #[tactic(auto, using(mdcc_def_protocol::proofs::Plain::unresolved_at_plain))]
     fn unresolved(&self, place: usize) -> Option<(TxId, WriteSet)> {
         self.unresolved(place)
     }
 
-    #[tactic(auto, using(mdcc_protocol::proofs::Plain::unresolved_plain))]
+    #[tactic(auto, using(mdcc_def_protocol::proofs::Plain::unresolved_plain))]
     fn write_set(&self, tx: TxId) -> Option<WriteSet> {
         self.write_set(tx)
     }
 
-    #[tactic(auto, using(mdcc_protocol::proofs::Plain::unresolved_plain))]
+    #[tactic(auto, using(mdcc_def_protocol::proofs::Plain::unresolved_plain))]
     fn unresolved_all(&self, alloc: Global) -> Result<HeapList<(TxId, WriteSet)>, Memory> {
         self.unresolved_all(alloc)
     }
 
-    #[tactic(auto, using(mdcc_protocol::proofs::Plain::choice_plain))]
+    #[tactic(auto, using(mdcc_def_protocol::proofs::Plain::choice_plain))]
     fn choice_of(&self, key: &Key, version: u64, tx: TxId) -> Option<Choice> {
         self.choice_of(key, version, tx)
     }

@@ -1,20 +1,20 @@
 //! What is held at a key.
 ghost use Rattle.std.specs.List.{list_any};
 ghost use Rattle.std.specs.Prelude.{◌≡◌, List, map, option_map};
-ghost use Rattle.mdcc_fact_folds.specs.Held.{delta_by};
-ghost use Rattle.mdcc_messages.specs.declared.facts.Fact.{Fact as AFact};
-ghost use Rattle.mdcc_protocol.specs.Facts.{base_of, current_of, deltas_at, executed_of};
-ghost use Rattle.mdcc_protocol.specs.News.{is_crowding};
-ghost use Rattle.mdcc_protocol.specs.Stores.{delta_of};
+ghost use Rattle.mdcc_theorem_fact_folds.specs.Held.{delta_by};
+ghost use Rattle.mdcc_def_messages.specs.declared.facts.Fact.{Fact as AFact};
+ghost use Rattle.mdcc_def_protocol.specs.Facts.{base_of, current_of, deltas_at, executed_of};
+ghost use Rattle.mdcc_def_protocol.specs.News.{is_crowding};
+ghost use Rattle.mdcc_def_protocol.specs.Stores.{delta_of};
 ghost use Rattle.mdcc_struct.specs.Maps.{txs_of, value_of};
 ghost use Rattle.mdcc_index.specs.Crowding.{is_key_crowded};
 ghost use Rattle.mdcc_index.specs.Stores.{Represents};
 
 use crate::PoolFacts;
 use mdcc_base::{Key, TxId};
-use mdcc_delta_steps::{OlderAmounts, WithDeltas, is_crowded, item_at};
-use mdcc_held::held::version_from;
-use mdcc_messages::Fact;
+use mdcc_cells_delta_walk::{OlderAmounts, WithDeltas, is_crowded, item_at};
+use mdcc_def_messages::Fact;
+use mdcc_facts_held::held::version_from;
 use mdcc_option::{Amounts, Choice, Delta, Item, Outcome, Seen};
 
 // The delta of a transaction that added something.

@@ -1,13 +1,13 @@
 //! What is live in an instance.
 ghost use Rattle.std.specs.Prelude.{◌≡◌, List};
-ghost use Rattle.mdcc_messages.specs.declared.facts.Fact.{Fact as AFact};
-ghost use Rattle.mdcc_protocol.specs.Plain.{plain_load_at};
+ghost use Rattle.mdcc_def_messages.specs.declared.facts.Fact.{Fact as AFact};
+ghost use Rattle.mdcc_def_protocol.specs.Plain.{plain_load_at};
 ghost use Rattle.mdcc_index.specs.Stores.{Represents, is_abort_ended};
 
 use crate::PoolFacts;
 use mdcc_base::{Key, TxId};
-use mdcc_delta_steps::{VoidTest, load};
-use mdcc_protocol::Load;
+use mdcc_cells_delta_walk::{VoidTest, load};
+use mdcc_def_protocol::Load;
 
 impl PoolFacts {
     /// What the live choices of an instance weigh beside a seen set. Counts stop at 2^32 - 1 and

@@ -1,24 +1,24 @@
 //! A store of facts in cells.
 ghost use Rattle.std.specs.Prelude.{◌≡◌, ◌∷◌, ◌+◌, ◌*◌, [], OnOk, OnErr, IfOk, List};
-ghost use Rattle.mdcc_messages.specs.Lengths.{cells_needed};
-ghost use Rattle.mdcc_messages.specs.declared.facts.Fact.{Fact as AFact};
-ghost use Rattle.mdcc_protocol.specs.Facts.{epoch_of, heard_of, is_heard, promised_through};
-ghost use Rattle.mdcc_protocol.specs.Plain.{plain_ended_of};
+ghost use Rattle.mdcc_def_messages.specs.Lengths.{cells_needed};
+ghost use Rattle.mdcc_def_messages.specs.declared.facts.Fact.{Fact as AFact};
+ghost use Rattle.mdcc_def_protocol.specs.Facts.{epoch_of, heard_of, is_heard, promised_through};
+ghost use Rattle.mdcc_def_protocol.specs.Plain.{plain_ended_of};
 ghost use Rattle.mdcc_facts.specs.Adding.{MayBeAdded, add_result};
-ghost use Rattle.mdcc_fact_folds.specs.Promises.{next_epoch};
-ghost use Rattle.mdcc_fact_tables.specs.HeldVersions.{HoldsVersions, no_versions};
-ghost use Rattle.mdcc_fact_tables.specs.UnresolvedNumbers.{ListsUnresolved};
-ghost use Rattle.mdcc_fact_index.specs.Heard.{ended_told};
-ghost use Rattle.mdcc_fact_index.specs.Tallies.{HoldsTallies};
+ghost use Rattle.mdcc_theorem_fact_folds.specs.Promises.{next_epoch};
+ghost use Rattle.mdcc_cells_tables.specs.HeldVersions.{HoldsVersions, no_versions};
+ghost use Rattle.mdcc_cells_tables.specs.UnresolvedNumbers.{ListsUnresolved};
+ghost use Rattle.mdcc_cells_indices.specs.Heard.{ended_told};
+ghost use Rattle.mdcc_cells_indices.specs.Tallies.{HoldsTallies};
 ghost use Rattle.mdcc_index.specs.Stores.{Represents};
 
 use mdcc_base::{Ballot, Key, Memory, TxId};
-use mdcc_fact_cells::FactCells;
-use mdcc_fact_index::{InstanceChains, OutcomeIndex, Promises, Tallies};
-use mdcc_fact_tables::{HeardTest, HeldTable, UnresolvedTable};
-use mdcc_messages::Fact;
+use mdcc_cells_facts::FactCells;
+use mdcc_cells_indices::{InstanceChains, OutcomeIndex, Promises, Tallies};
+use mdcc_cells_tables::{HeardTest, HeldTable, UnresolvedTable};
+use mdcc_def_messages::Fact;
+use mdcc_def_protocol::StoreFault;
 use mdcc_option::Outcome;
-use mdcc_protocol::StoreFault;
 use std::alloc::Global;
 use std::marker::Model;
 

@@ -1,22 +1,22 @@
 //! The transactions that are not resolved.
 ghost use Rattle.std.specs.Prelude.{◌≡◌, ◌<◌, IfOk, List, length};
-ghost use Rattle.mdcc_messages.specs.declared.facts.Fact.{Fact as AFact};
-ghost use Rattle.mdcc_protocol.specs.Plain.{plain_unresolved_at, plain_unresolved_of};
+ghost use Rattle.mdcc_def_messages.specs.declared.facts.Fact.{Fact as AFact};
+ghost use Rattle.mdcc_def_protocol.specs.Plain.{plain_unresolved_at, plain_unresolved_of};
 ghost use Rattle.mdcc_struct.specs.Maps.{value_of};
-ghost use Rattle.mdcc_fact_tables.specs.UnresolvedNumbers.{with_write_set, write_set_at};
+ghost use Rattle.mdcc_cells_tables.specs.UnresolvedNumbers.{with_write_set, write_set_numbered};
 ghost use Rattle.mdcc_index.specs.Stores.{Represents};
 
 use crate::PoolFacts;
 use mdcc_base::{HeapList, Memory, TxId};
+use mdcc_cells_vote_walk::write_set_at;
 use mdcc_option::WriteSet;
-use mdcc_vote_steps::write_set_at;
 use std::alloc::Global;
 
 impl PoolFacts {
     // The write set of a transaction, from the fact of a number.
     fn write_set_by(&self, tx: TxId, number: u32) -> Option<WriteSet>
         requires { number < length self.now.cells.encodings }
-        ensures { (facts : List AFact) → Represents self.now facts → result ≡ write_set_at facts number tx }
+        ensures { (facts : List AFact) → Represents self.now facts → result ≡ write_set_numbered facts number tx }
     {
         write_set_at(&self.cells, number, &tx)
     }

@@ -1,27 +1,27 @@
 //! The votes of an instance.
 ghost use Rattle.std.specs.List.{filter, fold};
 ghost use Rattle.std.specs.Prelude.{◌≡◌, ◌-◌, None, Some, IfOk, List, option_map, true};
-ghost use Rattle.mdcc_messages.specs.declared.facts.Fact.{Fact as AFact};
-ghost use Rattle.mdcc_protocol.specs.Facts.{first_choice, last_ballot, last_vote, promise_of, votes_of, write_sets_of};
+ghost use Rattle.mdcc_def_messages.specs.declared.facts.Fact.{Fact as AFact};
+ghost use Rattle.mdcc_def_protocol.specs.Facts.{first_choice_voted, last_ballot, last_vote, promise_of, votes_of, write_sets_of};
 ghost use Rattle.mdcc_struct.specs.Maps.{value_of};
-ghost use Rattle.mdcc_protocol.specs.Stores.{count_voted};
-ghost use Rattle.mdcc_protocol.specs.Plain.{plain_entries_at, plain_mark_after, plain_mark_below};
-ghost use Rattle.mdcc_fact_folds.specs.Chains.{is_of_instance};
-ghost use Rattle.mdcc_fact_folds.specs.Votes.{least_above, older_mark};
-ghost use Rattle.mdcc_fact_index.specs.Active.{is_active};
+ghost use Rattle.mdcc_def_protocol.specs.Stores.{count_voted};
+ghost use Rattle.mdcc_def_protocol.specs.Plain.{plain_entries_at, plain_mark_after, plain_mark_below};
+ghost use Rattle.mdcc_theorem_fact_folds.specs.Chains.{is_of_instance};
+ghost use Rattle.mdcc_theorem_fact_folds.specs.Votes.{least_above, older_mark};
+ghost use Rattle.mdcc_cells_indices.specs.Active.{is_active};
 ghost use Rattle.mdcc_index.specs.Marks.{next_marked};
 ghost use Rattle.mdcc_index.specs.Stores.{Represents};
 
 use crate::PoolFacts;
 use mdcc_base::{Ballot, Key, Memory, TxId};
-use mdcc_fact_cells::FactStep;
-use mdcc_fact_index::ballot_max;
-use mdcc_fact_tables::HeardTest;
-use mdcc_option::{Choice, Mark};
-use mdcc_struct::Options;
-use mdcc_vote_steps::{
+use mdcc_cells_facts::FactStep;
+use mdcc_cells_indices::ballot_max;
+use mdcc_cells_tables::HeardTest;
+use mdcc_cells_vote_walk::{
     GatheredMarks, LeastAbove, OlderChoice, OlderMark, OlderVote, WithBallot, WithCount,
 };
+use mdcc_option::{Choice, Mark};
+use mdcc_struct::Options;
 use std::alloc::Global;
 
 impl PoolFacts {
@@ -104,7 +104,7 @@ impl PoolFacts {
 
     /// The first choice of a transaction that a vote in the instance accepts or has as offered.
     pub fn choice_of(&self, key: &Key, version: u64, tx: TxId) -> Option<Choice>
-        ensures { (facts : List AFact) → Represents self.now facts → result ≡ first_choice facts key.now version tx }
+        ensures { (facts : List AFact) → Represents self.now facts → result ≡ first_choice_voted facts key.now version tx }
     {
         let mut state = OlderChoice {
             key: *key,

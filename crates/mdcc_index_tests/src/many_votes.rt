@@ -1,9 +1,9 @@
 //! Votes on very many keys.
 use mdcc_base::{Ballot, BoundedList, Centre, Key, Memory, TxId};
+use mdcc_def_protocol::StoreFault;
 use mdcc_facts::{Fact, FactStore};
 use mdcc_index::PoolFacts;
 use mdcc_option::{Choice, Item, Mark, Update};
-use mdcc_protocol::StoreFault;
 use mdcc_struct::Options;
 use mdcc_tests::adding::add_read;
 use std::alloc::Global;

@@ -1,9 +1,9 @@
 //! Facts added until no cell is spare.
 use mdcc_base::{Centre, TxId};
+use mdcc_def_protocol::StoreFault;
 use mdcc_facts::{Fact, FactStore};
 use mdcc_index::PoolFacts;
 use mdcc_option::Outcome;
-use mdcc_protocol::StoreFault;
 use mdcc_tests::adding::add_read;
 use std::alloc::Global;
 use std::test::Fail;

@@ -2,7 +2,7 @@
 ghost use Rattle.std.specs.Prelude.{◌<◌, ◌≤◌};
 
 use mdcc_base::{Ballot, BoundedList, Centre, HeapList, Key, Memory, Plain, TxId};
-use mdcc_messages::Fact;
+use mdcc_def_messages::Fact;
 use mdcc_option::{Amounts, Choice, Delta, Item, Mark, Outcome, Seen, Update, WriteSet};
 use mdcc_struct::Options;
 use std::alloc::Global;

@@ -1,6 +1,6 @@
 //! A store of facts in cells answers as one in a list does.
-ghost use Rattle.mdcc_messages.specs.Lengths.{fact_length};
-ghost use Rattle.mdcc_messages.specs.WellFormed.{IsWellFormedFact};
+ghost use Rattle.mdcc_def_messages.specs.Lengths.{fact_length};
+ghost use Rattle.mdcc_def_messages.specs.WellFormed.{IsWellFormedFact};
 ghost use Rattle.std.specs.Prelude.{◌<◌, ◌≤◌};
 
 use crate::comparison::{
@@ -10,8 +10,8 @@ use crate::comparison::{
 use crate::random_facts::{Random, key};
 use mdcc_base::Memory;
 use mdcc_facts::{Fact, FactStore};
+use mdcc_facts_listed::ListFacts;
 use mdcc_index::PoolFacts;
-use mdcc_list_facts::ListFacts;
 use mdcc_tests::adding::{add_news, reread};
 use std::alloc::Global;
 use std::test::Fail;

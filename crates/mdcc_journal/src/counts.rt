@@ -1,6 +1,6 @@
 //! Which facts can be written.
-ghost use Rattle.mdcc_messages.specs.declared.facts.Fact.{Fact};
-ghost use Rattle.mdcc_messages.specs.WellFormed.{IsWellFormedFact};
+ghost use Rattle.mdcc_def_messages.specs.declared.facts.Fact.{Fact};
+ghost use Rattle.mdcc_def_messages.specs.WellFormed.{IsWellFormedFact};
 ghost use Rattle.mdcc_journal.specs.Counts.{HasCounts};
 
 /// The lists of a well-formed fact are no longer than their counts can say.

@@ -2,11 +2,11 @@
 ghost use Rattle.std.specs.Prelude.{◌≡◌};
 ghost use Rattle.mdcc_base.specs.Unless.{GivesUnless};
 ghost use Rattle.mdcc_parts.specs.Reads.{is_wire_memory};
-ghost use Rattle.mdcc_messages.specs.ReadingSteps.{checked, u8_at};
-ghost use Rattle.mdcc_messages.specs.Reading.{known, booted_at, promised_at, some_offered_at, offered_at, vote_at, heard_fact_at, adopted_at, floor_at, fact_at, fact_of};
+ghost use Rattle.mdcc_def_messages.specs.ReadingSteps.{checked, u8_at};
+ghost use Rattle.mdcc_def_messages.specs.Reading.{known, booted_at, promised_at, some_offered_at, offered_at, vote_at, heard_fact_at, adopted_at, floor_at, fact_at, fact_of};
 
 use mdcc_base::Key;
-use mdcc_messages::{Fact, WireFault};
+use mdcc_def_messages::{Fact, WireFault};
 use mdcc_option::Choice;
 use mdcc_parts::choices::read_choice_of;
 use mdcc_parts::given::{read_given, read_heard, read_instance};

@@ -1,17 +1,19 @@
 //! Facts written to bytes.
 ghost use Rattle.std.specs.Prelude.{◌≡◌, ◌≤◌, ◌+◌, ◌++◌, ◌^◌, vec_len, vec_capacity, IsOk, OnOk, OnErr};
-ghost use Rattle.mdcc_messages.specs.Bytes.{u8_bytes, u32_bytes, u64_bytes};
-ghost use Rattle.mdcc_messages.specs.SpelledParts.{key_bytes, ballot_bytes};
-ghost use Rattle.mdcc_messages.specs.Spelling.{offered_bytes, fact_bytes};
-ghost use Rattle.mdcc_messages.specs.Lengths.{key_length, offered_length, fact_length};
+ghost use Rattle.mdcc_def_messages.specs.Bytes.{u8_bytes, u32_bytes, u64_bytes};
+ghost use Rattle.mdcc_def_messages.specs.SpelledParts.{key_bytes, ballot_bytes};
+ghost use Rattle.mdcc_def_messages.specs.Spelling.{offered_bytes, fact_bytes};
+ghost use Rattle.mdcc_def_messages.specs.Lengths.{key_length, offered_length, fact_length};
 ghost use Rattle.mdcc_journal.specs.Counts.{HasCounts};
 
-use mdcc_append::appending::{put_ballot, put_choice, put_key, put_u8, put_u32, put_u64};
-use mdcc_append::lengths::{choice_length, given_length, heard_length, key_length, options_length};
-use mdcc_append::marks::{put_given, put_heard, put_options};
 use mdcc_base::{Ballot, Centre, Key, Memory};
-use mdcc_messages::Fact;
+use mdcc_def_messages::Fact;
 use mdcc_option::Choice;
+use mdcc_parts_append::appending::{put_ballot, put_choice, put_key, put_u8, put_u32, put_u64};
+use mdcc_parts_append::lengths::{
+    choice_length, given_length, heard_length, key_length, options_length,
+};
+use mdcc_parts_append::marks::{put_given, put_heard, put_options};
 
 // How many bytes a choice has that may be there.
 fn offered_length(offered: &Option<Choice>) -> usize

@@ -7,4 +7,4 @@ pub mod encoding;
 
 pub use decoding::decode_fact;
 pub use encoding::{encode_fact, fact_length};
-pub use mdcc_messages::{Fact, WireFault};
+pub use mdcc_def_messages::{Fact, WireFault};

@@ -10,9 +10,9 @@ use Rattle.mdcc_base.specs.Quorums.{all_centres}
 use Rattle.mdcc_base.specs.Sizes.{Sizes}
 use Rattle.mdcc_leader.specs.Leads.{AreOfCentres}
 use Rattle.mdcc_base.specs.Ballot.{ballot_eq}
-use Rattle.mdcc_protocol.specs.Leader.{is_at_odds, is_promise_counted, with_promise}
-use Rattle.mdcc_protocol.specs.Volatile.{Counted, Lead}
-use Rattle.mdcc_protocol.specs.declared.leader.Promise.{Promise}
+use Rattle.mdcc_def_protocol.specs.Leader.{is_at_odds, is_promise_counted, with_promise}
+use Rattle.mdcc_def_protocol.specs.Volatile.{CountedPromise, Lead}
+use Rattle.mdcc_def_protocol.specs.declared.leader.Promise.{Promise}
 
 number-most : (test : ℕ → Bool) (xs : List ℕ) → number_of test xs ≤ length xs
 number-most test [] = omega arith
@@ -40,22 +40,22 @@ number-more test more from h fails passes a (suc n) low high =
           grind (arith, rest, h)
     ]
 
-abbrev has_promised : List Counted → ℕ → Bool
+abbrev has_promised : List CountedPromise → ℕ → Bool
 has_promised promises centre = list_any (λ promise. promise.from == centre) promises
 
 -- a further centre is counted
-pub AreOfCentres-more : (quorums : Sizes) (promises : List Counted) (promise : Counted) → 1 ≤ promise.from → promise.from ≤ quorums.centres
+pub AreOfCentres-more : (quorums : Sizes) (promises : List CountedPromise) (promise : CountedPromise) → 1 ≤ promise.from → promise.from ≤ quorums.centres
     → list_any (λ other. other.from == promise.from) promises ≡ false → AreOfCentres quorums promises → AreOfCentres quorums (promises ++ promise ∷ [])
 AreOfCentres-more quorums promises promise low high new of =
     let more = number-more (has_promised promises) (has_promised (promises ++ promise ∷ [])) promise.from
-    (λ x h. rw (list_any-append (λ (p : Counted). p.from == x) promises (promise ∷ [])) (grind (arith, h)))
-    new (rw (list_any-append (λ (p : Counted). p.from == promise.from) promises (promise ∷ [])) (grind (arith, nat_tests)))
+    (λ x h. rw (list_any-append (λ (p : CountedPromise). p.from == x) promises (promise ∷ [])) (grind (arith, h)))
+    new (rw (list_any-append (λ (p : CountedPromise). p.from == promise.from) promises (promise ∷ [])) (grind (arith, nat_tests)))
     1 quorums.centres low (omega arith) in
     let longer : length (promises ++ promise ∷ []) ≡ length promises + 1 = length-append promises (promise ∷ []) in
     omega (arith, more, longer, of)
 
 -- so there are no more than centres, and fewer where one did not promise
-pub promises-few : (quorums : Sizes) (promises : List Counted) (from : ℕ) → 1 ≤ from → from ≤ quorums.centres
+pub promises-few : (quorums : Sizes) (promises : List CountedPromise) (from : ℕ) → 1 ≤ from → from ≤ quorums.centres
     → list_any (λ other. other.from == from) promises ≡ false → AreOfCentres quorums promises → length promises < quorums.centres
 promises-few quorums promises from low high new of =
     let more = number-more (has_promised promises) (λ x. has_promised promises x || x == from) from (λ x h. grind (arith, h)) new (grind (arith, nat_tests)) 1 quorums.centres low (omega arith) in

@@ -8,28 +8,28 @@ use Rattle.mdcc_base.specs.Unless.{GivesUnless}
 use Rattle.mdcc_base.specs.declared.identifiers.Ballot.{Ballot}
 use Rattle.mdcc_base.specs.declared.key.Key.{Key}
 use Rattle.mdcc_leader.proofs.Lookups.{key_eq-refl, key_eq-same, lead_of-key, lead_of-with, number_at-with}
-use Rattle.mdcc_leader.specs.Answers.{answered, is_lead_memory, left}
+use Rattle.mdcc_leader.specs.Answers.{answer_alone, is_lead_memory, left}
 use Rattle.mdcc_leader.specs.Extending.{begun_with, lead_counted, lead_extended}
-use Rattle.mdcc_leader.specs.Leads.{AreOfCentres, Keeps, lead_in, round_led, round_refused}
+use Rattle.mdcc_leader.specs.Leads.{AreOfCentres, KeepsLead, lead_in, round_led, round_refused}
 use Rattle.mdcc_leader.specs.declared.led.Led.{Led}
-use Rattle.mdcc_messages.specs.declared.facts.Fact.{Fact}
+use Rattle.mdcc_def_messages.specs.declared.facts.Fact.{Fact}
 use Rattle.mdcc_option.specs.declared.choices.Claim.{Claim}
 use Rattle.mdcc_option.specs.declared.cluster.Cluster.{Cluster}
-use Rattle.mdcc_protocol.specs.Leader.{counted_promise, has_proposed, is_covered, is_promise_counted, is_waiting, lead, lead_begun, led_anew, led_again, led_by, led_on, next_round, on_promise, on_refused, promise_taken, refused_by, reports_of, structure_made, with_promise, with_refused, with_round_refused}
-use Rattle.mdcc_protocol.specs.Facts.{current_of, promise_of}
-use Rattle.mdcc_protocol.specs.Structures.{first_structure, is_crowded, is_enough, with_choice, with_claim}
-use Rattle.mdcc_protocol.specs.Volatile.{Lead, Leading, lead_of, number_at, structure_at, with_lead, with_number, with_structure}
-use Rattle.mdcc_protocol.specs.declared.leader.LeadFault.{LeadFault}
-use Rattle.mdcc_protocol.specs.declared.leader.Promise.{Promise}
-use Rattle.mdcc_protocol.specs.declared.leader.PromiseAnswer.{PromiseAnswer}
+use Rattle.mdcc_def_protocol.specs.Leader.{counted_promise, has_proposed, is_covered, is_promise_counted, is_waiting, lead, lead_begun, led_anew, led_again, led_by, led_on, next_round, on_promise, on_refused, promise_taken, refused_by, reports_of, structure_made, with_promise, with_refused, with_round_refused}
+use Rattle.mdcc_def_protocol.specs.Facts.{current_of, promise_of}
+use Rattle.mdcc_def_protocol.specs.Structures.{first_structure, is_crowded, is_enough, with_choice, with_claim}
+use Rattle.mdcc_def_protocol.specs.Volatile.{Lead, Leading, lead_of, number_kept_at, structure_at, with_lead, with_number, with_structure}
+use Rattle.mdcc_def_protocol.specs.declared.leader.LeadFault.{LeadFault}
+use Rattle.mdcc_def_protocol.specs.declared.leader.Promise.{Promise}
+use Rattle.mdcc_def_protocol.specs.declared.leader.PromiseAnswer.{PromiseAnswer}
 use Rattle.mdcc_struct.specs.Maps.{value_of}
 
 -- ---- at the key
 
 -- a lead takes the place of the one that the key had, at its ballot
-pub Keeps-with : (quorums : Sizes) (leading : Leading) (key : Key) (led : Led) (lead : Lead) → Keeps quorums leading key (Some led)
+pub Keeps-with : (quorums : Sizes) (leading : Leading) (key : Key) (led : Led) (lead : Lead) → KeepsLead quorums leading key (Some led)
     → lead.key ≡ key → lead.ballot.round ≡ led.lead.ballot.round → AreOfCentres quorums lead.promises
-    → Keeps quorums (with_lead leading lead) key (Some (record { lead = lead; refused_round = led.refused_round }))
+    → KeepsLead quorums (with_lead leading lead) key (Some (record { lead = lead; refused_round = led.refused_round }))
 Keeps-with quorums leading key led lead k is same of = record {
   lead = lead_of-with leading lead key ∙ rw (is, key_eq-refl key) refl;
   refused = k.refused;
@@ -38,8 +38,8 @@ Keeps-with quorums leading key led lead k is same of = record {
 }
 
 -- a new lead
-pub Keeps-anew : (cluster : Cluster) (me epoch : ℕ) (leading : Leading) (claim : Claim) (round : ℕ) (led : Option Led) → Keeps cluster.quorums leading claim.key led
-    → Keeps cluster.quorums
+pub Keeps-anew : (cluster : Cluster) (me epoch : ℕ) (leading : Leading) (claim : Claim) (round : ℕ) (led : Option Led) → KeepsLead cluster.quorums leading claim.key led
+    → KeepsLead cluster.quorums
     (record (with_lead leading (lead_begun cluster me epoch claim round)) { last_rounds = with_number leading.last_rounds claim.key round })
     claim.key (Some (record { lead = lead_begun cluster me epoch claim round; refused_round = round_refused led }))
 Keeps-anew cluster me epoch leading claim round led k = record {
@@ -54,13 +54,13 @@ Keeps-anew cluster me epoch leading claim round led k = record {
 -- two states have the same for a key
 pub record SameAt (a b : Leading) (key : Key) : Type 0 where
   pub leads : lead_of a key ≡ lead_of b key
-  pub refused : number_at a.refused_rounds key ≡ number_at b.refused_rounds key
-  pub last : number_at a.last_rounds key ≡ number_at b.last_rounds key
+  pub refused : number_kept_at a.refused_rounds key ≡ number_kept_at b.refused_rounds key
+  pub last : number_kept_at a.last_rounds key ≡ number_kept_at b.last_rounds key
 
 pub SameAt-refl : (a : Leading) (key : Key) → SameAt a a key
 SameAt-refl a key = record { leads = refl; refused = refl; last = refl }
 
-pub Keeps-same : (quorums : Sizes) (a b : Leading) (key : Key) (led : Option Led) → SameAt a b key → Keeps quorums a key led → Keeps quorums b key led
+pub Keeps-same : (quorums : Sizes) (a b : Leading) (key : Key) (led : Option Led) → SameAt a b key → KeepsLead quorums a key led → KeepsLead quorums b key led
 Keeps-same quorums a b key led s k = record {
   lead = sym s.leads ∙ k.lead;
   refused = sym s.refused ∙ k.refused;
@@ -183,14 +183,14 @@ with_refused-same of ballot =
       | inr other ↦ rw other (refl, refl, refl)
     ]
 
-pub Keeps-refused : (quorums : Sizes) (leading : Leading) (key : Key) (ballot promised : Ballot) (led after : Led) → Keeps quorums leading key (Some led)
+pub Keeps-refused : (quorums : Sizes) (leading : Leading) (key : Key) (ballot promised : Ballot) (led after : Led) → KeepsLead quorums leading key (Some led)
     → after.lead ≡ with_refused led.lead ballot → after.refused_round ≡ max led.refused_round promised.round
-    → Keeps quorums (on_refused leading key ballot promised) key (Some after)
+    → KeepsLead quorums (on_refused leading key ballot promised) key (Some after)
 Keeps-refused quorums leading key ballot promised led after k is round =
     let same = with_refused-same led.lead ballot in
     let of : led.lead.key ≡ key = lead_of-key leading.leads key led.lead k.lead in
     let there : (with_refused led.lead ballot).key ≡ key = same.0 ∙ of in
-    let greatest = max (number_at leading.refused_rounds key) promised.round in
+    let greatest = max (number_kept_at leading.refused_rounds key) promised.round in
     rw k.lead (record {
       lead = lead_of-with leading (with_refused led.lead ballot) key ∙ rw (there, key_eq-refl key) (ap (λ x. Some x) (sym is));
       refused = number_at-with leading.refused_rounds key greatest key ∙ rw (key_eq-refl key, k.refused) (sym round);
@@ -199,8 +199,8 @@ Keeps-refused quorums leading key ballot promised led after k is round =
     })
 
 pub Keeps-replaced : (cluster : Cluster) (me epoch : ℕ) (facts : List Fact) (leading : Leading) (claim : Claim) (led : Option Led) (begun : Lead)
-    → Keeps cluster.quorums leading claim.key led → Ok begun ≡ begun_with cluster me epoch facts (round_refused led) (round_led led) claim
-    → Keeps cluster.quorums (left leading (led_anew cluster me epoch facts leading claim)) claim.key (Some (record { lead = begun; refused_round = round_refused led }))
+    → KeepsLead cluster.quorums leading claim.key led → Ok begun ≡ begun_with cluster me epoch facts (round_refused led) (round_led led) claim
+    → KeepsLead cluster.quorums (left leading (led_anew cluster me epoch facts leading claim)) claim.key (Some (record { lead = begun; refused_round = round_refused led }))
 Keeps-replaced cluster me epoch facts leading claim led begun k is =
     let round = 1 + max (promise_of facts claim.key claim.version).round (max (round_refused led) (round_led led)) in
     elim (cases_Bool (nat_le (2 ^ 32) round)) [
@@ -212,25 +212,25 @@ Keeps-replaced cluster me epoch facts leading claim led begun k is =
     ]
 
 Keeps-true : {A : Type 0} (quorums : Sizes) (leading : Leading) (key : Key) (led : Option Led) (test : Bool) (x y : Result (A × Leading) LeadFault) → test ≡ true
-    → Keeps quorums (left leading x) key led → Keeps quorums (left leading (cond test x y)) key led
+    → KeepsLead quorums (left leading x) key led → KeepsLead quorums (left leading (cond test x y)) key led
 Keeps-true quorums leading key led true x y h k = k
 Keeps-true quorums leading key led false x y h k = absurd (cc)
 
 Keeps-false : {A : Type 0} (quorums : Sizes) (leading : Leading) (key : Key) (led : Option Led) (test : Bool) (x y : Result (A × Leading) LeadFault) → test ≡ false
-    → Keeps quorums (left leading y) key led → Keeps quorums (left leading (cond test x y)) key led
+    → KeepsLead quorums (left leading y) key led → KeepsLead quorums (left leading (cond test x y)) key led
 Keeps-false quorums leading key led true x y h k = absurd (cc)
 Keeps-false quorums leading key led false x y h k = k
 
 Keeps-if : {A : Type 0} (quorums : Sizes) (key : Key) (refused : ℕ) (test : Bool) (x y : A × Leading) (a b : Lead)
-    → Keeps quorums x.1 key (Some (record { lead = a; refused_round = refused })) → Keeps quorums y.1 key (Some (record { lead = b; refused_round = refused }))
-    → Keeps quorums (cond test x y).1 key (Some (record { lead = cond test a b; refused_round = refused }))
+    → KeepsLead quorums x.1 key (Some (record { lead = a; refused_round = refused })) → KeepsLead quorums y.1 key (Some (record { lead = b; refused_round = refused }))
+    → KeepsLead quorums (cond test x y).1 key (Some (record { lead = cond test a b; refused_round = refused }))
 Keeps-if quorums key refused true x y a b h k = h
 Keeps-if quorums key refused false x y a b h k = k
 
 -- a lead that proposes at once
-pub Keeps-extended : (cluster : Cluster) (me epoch : ℕ) (facts : List Fact) (leading : Leading) (claim : Claim) (led : Led) → Keeps cluster.quorums leading claim.key (Some led)
+pub Keeps-extended : (cluster : Cluster) (me epoch : ℕ) (facts : List Fact) (leading : Leading) (claim : Claim) (led : Led) → KeepsLead cluster.quorums leading claim.key (Some led)
     → led.lead.is_refused ≡ false → is_covered cluster.quorums led.lead claim.version ≡ true
-    → Keeps cluster.quorums (left leading (led_by cluster me epoch facts leading claim (Some led.lead))) claim.key
+    → KeepsLead cluster.quorums (left leading (led_by cluster me epoch facts leading claim (Some led.lead))) claim.key
     (Some (record { lead = lead_extended cluster facts led.lead claim; refused_round = led.refused_round }))
 Keeps-extended cluster me epoch facts leading claim led k stands covered =
     let of = led.lead in
@@ -245,9 +245,9 @@ Keeps-extended cluster me epoch facts leading claim led k stands covered =
     (Keeps-with cluster.quorums leading claim.key led longer k there refl k.promised) k)))
 
 -- a lead that waits
-pub Keeps-waiting : (cluster : Cluster) (me epoch : ℕ) (facts : List Fact) (leading : Leading) (claim : Claim) (led : Led) → Keeps cluster.quorums leading claim.key (Some led)
+pub Keeps-waiting : (cluster : Cluster) (me epoch : ℕ) (facts : List Fact) (leading : Leading) (claim : Claim) (led : Led) → KeepsLead cluster.quorums leading claim.key (Some led)
     → led.lead.is_refused ≡ false → is_covered cluster.quorums led.lead claim.version ≡ false → is_waiting led.lead claim.version ≡ true
-    → Keeps cluster.quorums (left leading (led_by cluster me epoch facts leading claim (Some led.lead))) claim.key
+    → KeepsLead cluster.quorums (left leading (led_by cluster me epoch facts leading claim (Some led.lead))) claim.key
     (Some (record { lead = record led.lead { claims = with_choice led.lead.claims (claim.tx, claim.choice) }; refused_round = led.refused_round }))
 Keeps-waiting cluster me epoch facts leading claim led k stands bare waits =
     let of = led.lead in
@@ -260,10 +260,10 @@ Keeps-waiting cluster me epoch facts leading claim led k stands bare waits =
 
 -- a promise that counts
 pub Keeps-counted : (cluster : Cluster) (facts : List Fact) (leading : Leading) (from : ℕ) (promise : Promise) (led : Led) (answer : PromiseAnswer)
-    → Keeps cluster.quorums leading promise.key (Some led) → is_promise_counted led.lead from promise ≡ true
+    → KeepsLead cluster.quorums leading promise.key (Some led) → is_promise_counted led.lead from promise ≡ true
     → AreOfCentres cluster.quorums (with_promise led.lead from promise).promises
-    → Ok answer ≡ answered (counted_promise cluster facts leading (with_promise led.lead from promise))
-    → Keeps cluster.quorums (left leading (promise_taken cluster facts leading from promise (Some led.lead))) promise.key
+    → Ok answer ≡ answer_alone (counted_promise cluster facts leading (with_promise led.lead from promise))
+    → KeepsLead cluster.quorums (left leading (promise_taken cluster facts leading from promise (Some led.lead))) promise.key
     (Some (record { lead = lead_counted cluster facts (with_promise led.lead from promise); refused_round = led.refused_round }))
 Keeps-counted cluster facts leading from promise led answer k counts are given =
     let of = with_promise led.lead from promise in
@@ -276,11 +276,11 @@ Keeps-counted cluster facts leading from promise led answer k counts are given =
     (by (has_proposed of) (is_enough cluster facts of.key of.version (reports_of of.promises)) (is_crowded options) _ _ of made answer kept put given)
   where
     by : (proposed enough crowded : Bool) (a b : PromiseAnswer) (of made : Lead) (answer : PromiseAnswer)
-        → Keeps cluster.quorums (with_lead leading of) promise.key (Some (record { lead = of; refused_round = led.refused_round }))
-        → Keeps cluster.quorums (with_lead leading made) promise.key (Some (record { lead = made; refused_round = led.refused_round }))
-        → Ok answer ≡ answered (cond proposed (Ok (PromiseAnswer.Counted, with_lead leading of))
+        → KeepsLead cluster.quorums (with_lead leading of) promise.key (Some (record { lead = of; refused_round = led.refused_round }))
+        → KeepsLead cluster.quorums (with_lead leading made) promise.key (Some (record { lead = made; refused_round = led.refused_round }))
+        → Ok answer ≡ answer_alone (cond proposed (Ok (PromiseAnswer.Counted, with_lead leading of))
         (cond enough (cond crowded (Err LeadFault.Crowded) (Ok (a, with_lead leading made))) (Ok (b, with_lead leading of))))
-        → Keeps cluster.quorums (left leading (cond proposed (Ok (PromiseAnswer.Counted, with_lead leading of))
+        → KeepsLead cluster.quorums (left leading (cond proposed (Ok (PromiseAnswer.Counted, with_lead leading of))
         (cond enough (cond crowded (Err LeadFault.Crowded) (Ok (a, with_lead leading made))) (Ok (b, with_lead leading of))))) promise.key
         (Some (record { lead = cond proposed of (cond enough made of); refused_round = led.refused_round }))
     by true enough crowded a b of made answer kept put given = kept
@@ -289,11 +289,11 @@ Keeps-counted cluster facts leading from promise led answer k counts are given =
     by false false crowded a b of made answer kept put given = kept
 
 pub Keeps-counted-by : (cluster : Cluster) (facts : List Fact) (leading : Leading) (from : ℕ) (promise : Promise) (led : Led) (after : Lead) (result : Result PromiseAnswer LeadFault)
-    → Keeps cluster.quorums leading promise.key (Some led) → is_promise_counted led.lead from promise ≡ true
+    → KeepsLead cluster.quorums leading promise.key (Some led) → is_promise_counted led.lead from promise ≡ true
     → AreOfCentres cluster.quorums (with_promise led.lead from promise).promises
-    → GivesUnless is_lead_memory result (answered (counted_promise cluster facts leading (with_promise led.lead from promise)))
+    → GivesUnless is_lead_memory result (answer_alone (counted_promise cluster facts leading (with_promise led.lead from promise)))
     → OnOk result (after ≡ lead_counted cluster facts (with_promise led.lead from promise))
-    → OnOk result (Keeps cluster.quorums (left leading (promise_taken cluster facts leading from promise (Some led.lead))) promise.key
+    → OnOk result (KeepsLead cluster.quorums (left leading (promise_taken cluster facts leading from promise (Some led.lead))) promise.key
     (Some (record { lead = after; refused_round = led.refused_round })))
 Keeps-counted-by cluster facts leading from promise led after (Ok answer) k counts are given is =
     rw is (Keeps-counted cluster facts leading from promise led answer k counts are given)

@@ -4,7 +4,7 @@ use Rattle.std.proofs.lemmas.Bool.{cases_Bool}
 use Rattle.mdcc_base.specs.Key.{key_eq}
 use Rattle.mdcc_base.specs.declared.key.Key.{Key}
 use Rattle.mdcc_option.proofs.Equal.{Decides-key}
-use Rattle.mdcc_protocol.specs.Volatile.{Lead, Leading, lead_of, number_at, with_lead, with_number}
+use Rattle.mdcc_def_protocol.specs.Volatile.{Lead, Leading, lead_of, number_kept_at, with_lead, with_number}
 
 pub key_eq-same : (a b : Key) → key_eq a b ≡ true → a ≡ b
 key_eq-same a b e = (Decides-key a b).0 e
@@ -46,7 +46,7 @@ lead_of-key (x ∷ xs) key lead h =
       | inr other ↦ lead_of-key xs key lead (rw other at h)
     ]
 
-pub number_at-with : (numbers : List (Key × ℕ)) (k : Key) (n : ℕ) (key : Key) → number_at (with_number numbers k n) key ≡ cond (key_eq k key) n (number_at numbers key)
+pub number_at-with : (numbers : List (Key × ℕ)) (k : Key) (n : ℕ) (key : Key) → number_kept_at (with_number numbers k n) key ≡ cond (key_eq k key) n (number_kept_at numbers key)
 number_at-with [] k n key = refl
 number_at-with (e ∷ es) k n key =
     elim (cases_Bool (key_eq e.0 k)) [

@@ -7,8 +7,8 @@ use Rattle.mdcc_base.specs.Ballot.{ballot_eq}
 use Rattle.mdcc_base.specs.Counts.{number_of}
 use Rattle.mdcc_base.specs.declared.identifiers.Ballot.{Ballot}
 use Rattle.mdcc_leader.specs.Promises.{counted_of}
-use Rattle.mdcc_protocol.specs.Leader.{is_differing, reports_of}
-use Rattle.mdcc_protocol.specs.Volatile.{Counted}
+use Rattle.mdcc_def_protocol.specs.Leader.{is_differing, reports_of}
+use Rattle.mdcc_def_protocol.specs.Volatile.{CountedPromise}
 use Rattle.mdcc_struct.specs.declared.options.Options.{Options}
 use Rattle.mdcc_struct.specs.declared.report.Report.{Report}
 

@@ -5,17 +5,17 @@ use Rattle.std.proofs.lemmas.Bool.Decides.{nat_tests}
 use Rattle.indexmap.specs.IndexMap.{insert_entry}
 use Rattle.std.specs.Map.{lookup, set_value}
 use Rattle.mdcc_leader.specs.Extending.{judged, lead_extended}
-use Rattle.mdcc_messages.specs.declared.facts.Fact.{Fact}
+use Rattle.mdcc_def_messages.specs.declared.facts.Fact.{Fact}
 use Rattle.mdcc_option.specs.declared.choices.Claim.{Claim}
 use Rattle.mdcc_option.specs.declared.choices.Mark.{Mark}
 use Rattle.mdcc_option.specs.declared.cluster.Cluster.{Cluster}
 use Rattle.mdcc_base.specs.TxId.{tx_eq}
 use Rattle.mdcc_base.specs.declared.identifiers.TxId.{TxId}
-use Rattle.mdcc_protocol.specs.Facts.{is_settled}
-use Rattle.mdcc_protocol.specs.Leader.{led_on}
-use Rattle.mdcc_protocol.specs.Structures.{is_left_out, mark_of_choice, with_claim}
-use Rattle.mdcc_protocol.specs.Volatile.{Lead, Leading, structure_at, structure_found, with_structure}
-use Rattle.mdcc_protocol.specs.declared.leader.LeadAnswer.{LeadAnswer}
+use Rattle.mdcc_def_protocol.specs.Facts.{is_settled}
+use Rattle.mdcc_def_protocol.specs.Leader.{led_on}
+use Rattle.mdcc_def_protocol.specs.Structures.{is_left_out, mark_of_choice, with_claim}
+use Rattle.mdcc_def_protocol.specs.Volatile.{Lead, Leading, structure_at, structure_found, with_structure}
+use Rattle.mdcc_def_protocol.specs.declared.leader.LeadAnswer.{LeadAnswer}
 use Rattle.mdcc_struct.proofs.Order.{tx_eq-refl}
 use Rattle.mdcc_struct.proofs.Values.{value_of-inserted}
 use Rattle.mdcc_struct.specs.Maps.{inserted, value_of, with_entry}

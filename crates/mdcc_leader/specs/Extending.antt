@@ -1,15 +1,15 @@
 -- What a lead is after a claim, and the structure that its promises give.
 use Rattle.std.specs.Prelude.{Err, List, None, Ok, Option, Result, Some, [], if◌then◌else◌, is_some, max, nat_le, ℕ, ◌+◌, ◌^◌, ◌||◌}
 use Rattle.mdcc_base.specs.declared.identifiers.TxId.{TxId}
-use Rattle.mdcc_messages.specs.declared.facts.Fact.{Fact}
+use Rattle.mdcc_def_messages.specs.declared.facts.Fact.{Fact}
 use Rattle.mdcc_option.specs.declared.choices.Claim.{Claim}
 use Rattle.mdcc_option.specs.declared.choices.Mark.{Mark}
 use Rattle.mdcc_option.specs.declared.cluster.Cluster.{Cluster}
-use Rattle.mdcc_protocol.specs.Facts.{is_settled, promise_of}
-use Rattle.mdcc_protocol.specs.Leader.{has_proposed, lead_begun, reports_of}
-use Rattle.mdcc_protocol.specs.Structures.{first_structure, is_enough, is_left_out, with_claim}
-use Rattle.mdcc_protocol.specs.Volatile.{Lead, structure_at, with_structure}
-use Rattle.mdcc_protocol.specs.declared.leader.LeadFault.{LeadFault}
+use Rattle.mdcc_def_protocol.specs.Facts.{is_settled, promise_of}
+use Rattle.mdcc_def_protocol.specs.Leader.{has_proposed, lead_begun, reports_of}
+use Rattle.mdcc_def_protocol.specs.Structures.{first_structure, is_enough, is_left_out, with_claim}
+use Rattle.mdcc_def_protocol.specs.Volatile.{Lead, structure_at, with_structure}
+use Rattle.mdcc_def_protocol.specs.declared.leader.LeadFault.{LeadFault}
 use Rattle.mdcc_struct.specs.Maps.{value_of}
 use Rattle.mdcc_struct.specs.declared.options.Options.{Options}
 

@@ -1,10 +1,10 @@
 -- How the promises of a lead lie in memory.
 use Rattle.std.specs.Prelude.{List, [], ℕ, ◌∷◌}
-use Rattle.mdcc_protocol.specs.Volatile.{Counted}
+use Rattle.mdcc_def_protocol.specs.Volatile.{CountedPromise}
 use Rattle.mdcc_struct.specs.declared.report.Report.{Report}
 
 -- the promises that were counted: their reports, and the high ends of their ranges
-abbrev pub counted_of : List Report → List ℕ → List Counted
+abbrev pub counted_of : List Report → List ℕ → List CountedPromise
 counted_of [] throughs = []
 counted_of (report ∷ reports) [] = []
 counted_of (report ∷ reports) (through ∷ throughs) =

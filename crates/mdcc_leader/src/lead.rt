@@ -5,24 +5,24 @@ ghost use Rattle.std.specs.Option.{option_copied};
 ghost use Rattle.mdcc_base.specs.Ballot.{ballot_eq};
 ghost use Rattle.mdcc_base.specs.Counts.{number_of};
 ghost use Rattle.mdcc_base.specs.Unless.{GivesUnless};
-ghost use Rattle.mdcc_leader.specs.Answers.{answered, is_lead_memory};
+ghost use Rattle.mdcc_leader.specs.Answers.{answer_alone, is_lead_memory};
 ghost use Rattle.mdcc_leader.specs.Extending.{judged, lead_counted, lead_extended, structure_forced};
-ghost use Rattle.mdcc_messages.specs.declared.facts.Fact.{Fact as AFact};
-ghost use Rattle.mdcc_protocol.specs.Leader.{counted_promise, has_proposed, is_at_odds, is_covered, is_differing, is_promise_counted, is_waiting, lead_begun, led_on, prepare_of, with_promise, with_refused};
-ghost use Rattle.mdcc_protocol.specs.Structures.{is_crowded, mark_of_choice, with_choice};
-ghost use Rattle.mdcc_protocol.specs.Volatile.{Leading, structure_at, structure_found, with_structure};
-ghost use Rattle.mdcc_protocol.specs.declared.leader.LeadAnswer.{LeadAnswer as ALeadAnswer};
-ghost use Rattle.mdcc_protocol.specs.declared.leader.LeadFault.{LeadFault as ALeadFault};
-ghost use Rattle.mdcc_protocol.specs.declared.leader.PromiseAnswer.{PromiseAnswer as APromiseAnswer};
+ghost use Rattle.mdcc_def_messages.specs.declared.facts.Fact.{Fact as AFact};
+ghost use Rattle.mdcc_def_protocol.specs.Leader.{counted_promise, has_proposed, is_at_odds, is_covered, is_differing, is_promise_counted, is_waiting, lead_begun, led_on, prepare_of, with_promise, with_refused};
+ghost use Rattle.mdcc_def_protocol.specs.Structures.{is_crowded, mark_of_choice, with_choice};
+ghost use Rattle.mdcc_def_protocol.specs.Volatile.{Leading, structure_at, structure_found, with_structure};
+ghost use Rattle.mdcc_def_protocol.specs.declared.leader.LeadAnswer.{LeadAnswer as ALeadAnswer};
+ghost use Rattle.mdcc_def_protocol.specs.declared.leader.LeadFault.{LeadFault as ALeadFault};
+ghost use Rattle.mdcc_def_protocol.specs.declared.leader.PromiseAnswer.{PromiseAnswer as APromiseAnswer};
 ghost use Rattle.mdcc_struct.specs.Maps.{inserted, value_of};
 
 use indexmap::IndexMap;
 use mdcc_base::{Ballot, Centre, Key, Memory, Plain, Quorums, TxId};
+use mdcc_def_protocol::{LeadAnswer, LeadFault, Promise, PromiseAnswer};
 use mdcc_facts::FactStore;
+use mdcc_leader_structures::{Claims, first_structure, is_crowded, is_left_out, mark_of_choice};
 use mdcc_option::{Claim, Cluster, Mark};
-use mdcc_protocol::{LeadAnswer, LeadFault, Promise, PromiseAnswer};
 use mdcc_struct::{Options, Report};
-use mdcc_structures::{Claims, first_structure, is_crowded, is_left_out, mark_of_choice};
 use std::alloc::Global;
 use std::marker::Model;
 
@@ -43,7 +43,7 @@ pub(crate) struct Lead {
 
 impl Model for Lead {
     ghost use Rattle.std.specs.Prelude.{◌≡◌, length};
-    ghost use Rattle.mdcc_protocol.specs.Volatile.{Lead as ALead};
+    ghost use Rattle.mdcc_def_protocol.specs.Volatile.{Lead as ALead};
     ghost use Rattle.mdcc_leader.specs.Promises.{counted_of};
 
     ghost Value = { ALead };
@@ -303,7 +303,7 @@ impl Lead {
     ) -> Result<PromiseAnswer, LeadFault>
         requires { length self.old.promises < cluster.now.quorums.centres }
         ensures answer { (facts : List AFact) (leader : Leading) → S.stands store.now facts
-            → GivesUnless is_lead_memory result (answered (counted_promise cluster.now facts leader (with_promise self.old from promise.now))) }
+            → GivesUnless is_lead_memory result (answer_alone (counted_promise cluster.now facts leader (with_promise self.old from promise.now))) }
         ensures ok { (facts : List AFact) → S.stands store.now facts
             → OnOk result (self.new ≡ lead_counted cluster.now facts (with_promise self.old from promise.now)) }
         ensures err { OnErr result (self.new ≡ self.old) }
@@ -353,7 +353,7 @@ impl Lead {
     ) -> Result<PromiseAnswer, LeadFault>
         requires { length self.old.promises ≤ cluster.now.quorums.centres }
         ensures answer { (facts : List AFact) (leader : Leading) → S.stands store.now facts
-            → GivesUnless is_lead_memory result (answered (counted_promise cluster.now facts leader self.old)) }
+            → GivesUnless is_lead_memory result (answer_alone (counted_promise cluster.now facts leader self.old)) }
         ensures ok { (facts : List AFact) → S.stands store.now facts → OnOk result (self.new ≡ lead_counted cluster.now facts self.old) }
         ensures err { OnErr result (self.new ≡ self.old) }
     {

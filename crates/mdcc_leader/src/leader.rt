@@ -6,18 +6,18 @@ ghost use Rattle.mdcc_base.specs.Key.{key_eq};
 ghost use Rattle.mdcc_base.specs.Sizes.{Sizes};
 ghost use Rattle.mdcc_base.specs.Unless.{GivesUnless};
 ghost use Rattle.mdcc_base.specs.declared.key.Key.{Key as AKey};
-ghost use Rattle.mdcc_leader.specs.Answers.{answered, is_lead_memory, left};
+ghost use Rattle.mdcc_leader.specs.Answers.{answer_alone, is_lead_memory, left};
 ghost use Rattle.mdcc_leader.specs.Represents.{RepresentsLeading};
-ghost use Rattle.mdcc_messages.specs.declared.facts.Fact.{Fact as AFact};
-ghost use Rattle.mdcc_protocol.specs.Leader.{lead, led_anew, on_promise, on_refused};
-ghost use Rattle.mdcc_protocol.specs.Volatile.{Leading, initial_volatile};
+ghost use Rattle.mdcc_def_messages.specs.declared.facts.Fact.{Fact as AFact};
+ghost use Rattle.mdcc_def_protocol.specs.Leader.{lead, led_anew, on_promise, on_refused};
+ghost use Rattle.mdcc_def_protocol.specs.Volatile.{Leading, initial_volatile};
 
 use crate::led::{Led, begin};
 use indexmap::IndexMap;
 use mdcc_base::{Ballot, Centre, Key, Memory};
+use mdcc_def_protocol::{LeadAnswer, LeadFault, Promise, PromiseAnswer};
 use mdcc_facts::FactStore;
 use mdcc_option::{Claim, Cluster};
-use mdcc_protocol::{LeadAnswer, LeadFault, Promise, PromiseAnswer};
 use std::alloc::Global;
 
 /// The classic ballots that a centre leads in one of its epochs, one for each key.
@@ -53,7 +53,7 @@ impl Leader {
     ) -> Result<LeadAnswer, LeadFault>
         ensures answer { (me epoch : ℕ) (facts : List AFact) (leading : Leading) → S.stands store.now facts
             → RepresentsLeading self.old me epoch cluster.now.quorums leading
-            → GivesUnless is_lead_memory result (answered (lead cluster.now me epoch facts leading claim.now)) }
+            → GivesUnless is_lead_memory result (answer_alone (lead cluster.now me epoch facts leading claim.now)) }
         ensures ok { (me epoch : ℕ) (facts : List AFact) (leading : Leading) → S.stands store.now facts
             → RepresentsLeading self.old me epoch cluster.now.quorums leading
             → OnOk result (RepresentsLeading self.new me epoch cluster.now.quorums (left leading (lead cluster.now me epoch facts leading claim.now))) }
@@ -81,7 +81,7 @@ impl Leader {
         requires { get key_eq self.old.leads claim.now.key ≡ None }
         ensures answer { (me epoch : ℕ) (facts : List AFact) (leading : Leading) → S.stands store.now facts
             → RepresentsLeading self.old me epoch cluster.now.quorums leading
-            → GivesUnless is_lead_memory result (answered (led_anew cluster.now me epoch facts leading claim.now)) }
+            → GivesUnless is_lead_memory result (answer_alone (led_anew cluster.now me epoch facts leading claim.now)) }
         ensures ok { (me epoch : ℕ) (facts : List AFact) (leading : Leading) → S.stands store.now facts
             → RepresentsLeading self.old me epoch cluster.now.quorums leading
             → OnOk result (RepresentsLeading self.new me epoch cluster.now.quorums (left leading (led_anew cluster.now me epoch facts leading claim.now))) }
@@ -122,7 +122,7 @@ impl Leader {
         requires { from ≤ cluster.now.quorums.centres }
         ensures answer { (me epoch : ℕ) (facts : List AFact) (leading : Leading) → S.stands store.now facts
             → RepresentsLeading self.old me epoch cluster.now.quorums leading
-            → GivesUnless is_lead_memory result (answered (on_promise cluster.now facts leading from promise.now)) }
+            → GivesUnless is_lead_memory result (answer_alone (on_promise cluster.now facts leading from promise.now)) }
         ensures ok { (me epoch : ℕ) (facts : List AFact) (leading : Leading) → S.stands store.now facts
             → RepresentsLeading self.old me epoch cluster.now.quorums leading
             → OnOk result (RepresentsLeading self.new me epoch cluster.now.quorums (left leading (on_promise cluster.now facts leading from promise.now))) }

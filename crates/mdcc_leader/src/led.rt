@@ -1,18 +1,18 @@
 //! What a leader keeps for a key.
 ghost use Rattle.std.specs.Prelude.{◌≡◌, ◌+◌, ◌^◌, List, None, OnErr, OnOk, Some, if◌then◌else◌, max, nat_le, ◌≤◌};
 ghost use Rattle.mdcc_base.specs.Unless.{GivesUnless};
-ghost use Rattle.mdcc_leader.specs.Answers.{answered, is_lead_memory, left};
+ghost use Rattle.mdcc_leader.specs.Answers.{answer_alone, is_lead_memory, left};
 ghost use Rattle.mdcc_leader.specs.Extending.{begun_with};
-ghost use Rattle.mdcc_leader.specs.Leads.{Keeps};
-ghost use Rattle.mdcc_messages.specs.declared.facts.Fact.{Fact as AFact};
-ghost use Rattle.mdcc_protocol.specs.Leader.{led_anew, led_by, promise_taken, with_refused};
-ghost use Rattle.mdcc_protocol.specs.Volatile.{Leading};
+ghost use Rattle.mdcc_leader.specs.Leads.{KeepsLead};
+ghost use Rattle.mdcc_def_messages.specs.declared.facts.Fact.{Fact as AFact};
+ghost use Rattle.mdcc_def_protocol.specs.Leader.{led_anew, led_by, promise_taken, with_refused};
+ghost use Rattle.mdcc_def_protocol.specs.Volatile.{Leading};
 
 use crate::lead::Lead;
 use mdcc_base::{Ballot, Centre};
+use mdcc_def_protocol::{LeadAnswer, LeadFault, Promise, PromiseAnswer};
 use mdcc_facts::FactStore;
 use mdcc_option::{Claim, Cluster};
-use mdcc_protocol::{LeadAnswer, LeadFault, Promise, PromiseAnswer};
 use std::alloc::Global;
 
 /// The last lead of a key, and the greatest round that was refused there.
@@ -63,11 +63,11 @@ impl Led {
         claim: &Claim,
     ) -> Result<LeadAnswer, LeadFault>
         ensures answer { (facts : List AFact) (leading : Leading) → S.stands store.now facts
-            → Keeps cluster.now.quorums leading claim.now.key (Some self.old)
-            → GivesUnless is_lead_memory result (answered (led_by cluster.now centre epoch facts leading claim.now (Some self.old.lead))) }
+            → KeepsLead cluster.now.quorums leading claim.now.key (Some self.old)
+            → GivesUnless is_lead_memory result (answer_alone (led_by cluster.now centre epoch facts leading claim.now (Some self.old.lead))) }
         ensures ok { (facts : List AFact) (leading : Leading) → S.stands store.now facts
-            → Keeps cluster.now.quorums leading claim.now.key (Some self.old)
-            → OnOk result (Keeps cluster.now.quorums (left leading (led_by cluster.now centre epoch facts leading claim.now (Some self.old.lead))) claim.now.key (Some self.new)) }
+            → KeepsLead cluster.now.quorums leading claim.now.key (Some self.old)
+            → OnOk result (KeepsLead cluster.now.quorums (left leading (led_by cluster.now centre epoch facts leading claim.now (Some self.old.lead))) claim.now.key (Some self.new)) }
         ensures err { OnErr result (self.new ≡ self.old) }
     {
         if self.lead.is_refused() {
@@ -94,11 +94,11 @@ impl Led {
         claim: &Claim,
     ) -> Result<LeadAnswer, LeadFault>
         ensures answer { (facts : List AFact) (leading : Leading) → S.stands store.now facts
-            → Keeps cluster.now.quorums leading claim.now.key (Some self.old)
-            → GivesUnless is_lead_memory result (answered (led_anew cluster.now centre epoch facts leading claim.now)) }
+            → KeepsLead cluster.now.quorums leading claim.now.key (Some self.old)
+            → GivesUnless is_lead_memory result (answer_alone (led_anew cluster.now centre epoch facts leading claim.now)) }
         ensures ok { (facts : List AFact) (leading : Leading) → S.stands store.now facts
-            → Keeps cluster.now.quorums leading claim.now.key (Some self.old)
-            → OnOk result (Keeps cluster.now.quorums (left leading (led_anew cluster.now centre epoch facts leading claim.now)) claim.now.key (Some self.new)) }
+            → KeepsLead cluster.now.quorums leading claim.now.key (Some self.old)
+            → OnOk result (KeepsLead cluster.now.quorums (left leading (led_anew cluster.now centre epoch facts leading claim.now)) claim.now.key (Some self.new)) }
         ensures err { OnErr result (self.new ≡ self.old) }
     {
         let rounds = (self.refused_round, self.lead.round());
@@ -117,11 +117,11 @@ impl Led {
     ) -> Result<PromiseAnswer, LeadFault>
         requires { from ≤ cluster.now.quorums.centres }
         ensures answer { (facts : List AFact) (leading : Leading) → S.stands store.now facts
-            → Keeps cluster.now.quorums leading promise.now.key (Some self.old)
-            → GivesUnless is_lead_memory result (answered (promise_taken cluster.now facts leading from promise.now (Some self.old.lead))) }
+            → KeepsLead cluster.now.quorums leading promise.now.key (Some self.old)
+            → GivesUnless is_lead_memory result (answer_alone (promise_taken cluster.now facts leading from promise.now (Some self.old.lead))) }
         ensures ok { (facts : List AFact) (leading : Leading) → S.stands store.now facts
-            → Keeps cluster.now.quorums leading promise.now.key (Some self.old)
-            → OnOk result (Keeps cluster.now.quorums (left leading (promise_taken cluster.now facts leading from promise.now (Some self.old.lead))) promise.now.key (Some self.new)) }
+            → KeepsLead cluster.now.quorums leading promise.now.key (Some self.old)
+            → OnOk result (KeepsLead cluster.now.quorums (left leading (promise_taken cluster.now facts leading from promise.now (Some self.old.lead))) promise.now.key (Some self.new)) }
         ensures err { OnErr result (self.new ≡ self.old) }
     {
         let _number = from.number();

@@ -7,5 +7,5 @@ pub mod leader;
 mod led;
 
 pub use leader::Leader;
+pub use mdcc_def_protocol::{LeadAnswer, LeadFault, Promise, PromiseAnswer};
 pub use mdcc_option::Claim;
-pub use mdcc_protocol::{LeadAnswer, LeadFault, Promise, PromiseAnswer};

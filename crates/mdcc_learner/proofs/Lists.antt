@@ -8,8 +8,8 @@ use Rattle.std.proofs.lemmas.List.Sums.{fold-append}
 use Rattle.mdcc_base.specs.Counts.{number_of}
 use Rattle.mdcc_base.specs.Sizes.{Sizes}
 use Rattle.mdcc_learner.specs.Decided.{lower_with, votes_backed}
-use Rattle.mdcc_protocol.specs.Learner.{lower_vote}
-use Rattle.mdcc_protocol.specs.declared.votes.Vote.{Vote}
+use Rattle.mdcc_def_protocol.specs.Learner.{lower_vote}
+use Rattle.mdcc_def_protocol.specs.declared.votes.Vote.{Vote}
 
 pub number_of-append : {X : Type 0} (test : X → Bool) (xs ys : List X) → number_of test (xs ++ ys) ≡ number_of test xs + number_of test ys
 number_of-append test [] ys = grind arith

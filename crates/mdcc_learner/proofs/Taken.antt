@@ -10,9 +10,9 @@ use Rattle.mdcc_base.specs.TxId.{tx_eq}
 use Rattle.mdcc_base.specs.declared.identifiers.TxId.{TxId}
 use Rattle.mdcc_base.specs.declared.key.Key.{Key}
 use Rattle.mdcc_learner.proofs.Lists.{list_any-filter}
-use Rattle.mdcc_protocol.specs.Learner.{is_counted, votes_on, with_vote}
-use Rattle.mdcc_protocol.specs.Volatile.{without_tx}
-use Rattle.mdcc_protocol.specs.declared.votes.Vote.{Vote}
+use Rattle.mdcc_def_protocol.specs.Learner.{is_counted, votes_on, with_counted_vote}
+use Rattle.mdcc_def_protocol.specs.Volatile.{without_tx}
+use Rattle.mdcc_def_protocol.specs.declared.votes.Vote.{Vote}
 use Rattle.mdcc_struct.proofs.Order.{tx_eq-same}
 
 -- only votes on its transaction and key bar a vote
@@ -24,7 +24,7 @@ is_counted-votes_on quorums votes vote =
     rw (list_any-filter is_there bars votes)
 
 pub votes_on-with_vote : (quorums : Sizes) (votes : List Vote) (vote : Vote) (tx : TxId) (key : Key)
-    → votes_on (with_vote quorums votes vote) tx key
+    → votes_on (with_counted_vote quorums votes vote) tx key
     ≡ votes_on votes tx key ++ (if is_counted quorums (votes_on votes vote.tx vote.key) vote then votes_on (vote ∷ []) tx key else [])
 votes_on-with_vote quorums votes vote tx key =
     rw (is_counted-votes_on quorums votes vote) (

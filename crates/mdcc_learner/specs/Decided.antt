@@ -5,9 +5,9 @@ use Rattle.mdcc_base.specs.Ballot.{ballot_eq, is_fast}
 use Rattle.mdcc_base.specs.Sizes.{Sizes}
 use Rattle.mdcc_option.specs.Equality.{mark_eq}
 use Rattle.mdcc_option.specs.declared.choices.Mark.{Mark}
-use Rattle.mdcc_protocol.specs.Learner.{has_quorum, is_out_of_reach, lower_vote}
-use Rattle.mdcc_protocol.specs.Marks.{is_accept}
-use Rattle.mdcc_protocol.specs.declared.votes.Vote.{Vote}
+use Rattle.mdcc_def_protocol.specs.Learner.{has_quorum, is_out_of_reach, lower_vote}
+use Rattle.mdcc_def_protocol.specs.Marks.{is_accept}
+use Rattle.mdcc_def_protocol.specs.declared.votes.Vote.{Vote}
 
 -- whether two votes are alike: of one ballot, with one mark
 abbrev pub is_alike : Vote → Vote → Bool

@@ -8,8 +8,8 @@ use Rattle.mdcc_base.specs.Sizes.{Sizes}
 use Rattle.mdcc_base.specs.TxId.{tx_eq}
 use Rattle.mdcc_base.specs.declared.identifiers.TxId.{TxId}
 use Rattle.mdcc_base.specs.declared.key.Key.{Key}
-use Rattle.mdcc_protocol.specs.Learner.{is_counted, votes_on}
-use Rattle.mdcc_protocol.specs.declared.votes.Vote.{Vote}
+use Rattle.mdcc_def_protocol.specs.Learner.{is_counted, votes_on}
+use Rattle.mdcc_def_protocol.specs.declared.votes.Vote.{Vote}
 
 abbrev pub VotesByKey : Type 0
 VotesByKey = IndexMap Key (List Vote) (BuildHasherDefault FoldHasher)

@@ -6,8 +6,8 @@ use Rattle.mdcc_base.specs.declared.identifiers.TxId.{TxId}
 use Rattle.mdcc_base.specs.declared.key.Key.{Key}
 use Rattle.mdcc_learner.specs.Places.{votes_at}
 use Rattle.mdcc_learner.specs.declared.learner.Learner.{Learner}
-use Rattle.mdcc_protocol.specs.Learner.{votes_on}
-use Rattle.mdcc_protocol.specs.declared.votes.Vote.{Vote}
+use Rattle.mdcc_def_protocol.specs.Learner.{votes_on}
+use Rattle.mdcc_def_protocol.specs.declared.votes.Vote.{Vote}
 
 -- in a cluster with these quorums the learner stands for these votes: it knows the quorums, unless no vote was counted,
 -- and keeps the votes on each transaction and key in their order

@@ -2,11 +2,11 @@
 ghost use Rattle.std.specs.Prelude.{◌≡◌, filter_map};
 ghost use Rattle.std.specs.List.{reduce};
 ghost use Rattle.std.specs.Option.{option_copied};
-ghost use Rattle.mdcc_protocol.specs.Recover.{choice_accepted};
+ghost use Rattle.mdcc_def_protocol.specs.Recover.{choice_accepted};
 
 use mdcc_base::Plain;
+use mdcc_def_protocol::Vote;
 use mdcc_option::{Choice, Mark};
-use mdcc_protocol::Vote;
 
 // The choice that a vote accepts at a version.
 fn choice_accepted(vote: &Vote, version: u64) -> Option<&Choice>

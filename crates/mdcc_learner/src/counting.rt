@@ -4,10 +4,10 @@ ghost use Rattle.std.specs.List.{list_any};
 ghost use Rattle.mdcc_base.specs.Counts.{number_of};
 ghost use Rattle.mdcc_base.specs.Quorums.{quorum_size};
 ghost use Rattle.mdcc_learner.specs.Decided.{is_alike};
-ghost use Rattle.mdcc_protocol.specs.Learner.{is_barred_by, is_counted, has_quorum, lower_vote};
+ghost use Rattle.mdcc_def_protocol.specs.Learner.{is_barred_by, is_counted, has_quorum, lower_vote};
 
 use mdcc_base::{Ballot, Quorums};
-use mdcc_protocol::Vote;
+use mdcc_def_protocol::Vote;
 
 // Whether a counted vote bars a further one on its transaction and key: it has another version, or
 // the same ballot and centre.

@@ -3,12 +3,12 @@ ghost use Rattle.std.specs.Prelude.{◌≡◌, ◌+◌, ◌-◌, ◌≤◌, ◌+
 ghost use Rattle.std.specs.Option.{option_copied, option_map};
 ghost use Rattle.mdcc_base.specs.Counts.{number_of};
 ghost use Rattle.mdcc_learner.specs.Decided.{deciding_vote, mark_decided, lower_with, votes_backed, fast_votes, is_collision};
-ghost use Rattle.mdcc_protocol.specs.Marks.{is_accept};
+ghost use Rattle.mdcc_def_protocol.specs.Marks.{is_accept};
 
 use crate::counting::{has_quorum, lower_vote};
 use mdcc_base::{Ballot, Plain, Quorums};
+use mdcc_def_protocol::Vote;
 use mdcc_option::Mark;
-use mdcc_protocol::Vote;
 
 // The lower of a vote and of one that there may be.
 fn lower_with<'a>(lowest: Option<&'a Vote>, vote: &'a Vote) -> &'a Vote

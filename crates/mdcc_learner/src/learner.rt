@@ -4,19 +4,19 @@ ghost use Rattle.std.specs.Prelude.{◌≡◌, List, [], IsOkAnd, OnOk, OnErr};
 ghost use Rattle.mdcc_base.specs.AreQuorums.{AreQuorums};
 ghost use Rattle.mdcc_base.specs.Sizes.{Sizes};
 ghost use Rattle.mdcc_learner.specs.Represents.{RepresentsVotes};
-ghost use Rattle.mdcc_protocol.specs.Learner.{with_vote, learned, collided, learned_with};
-ghost use Rattle.mdcc_protocol.specs.Marks.{is_accept};
-ghost use Rattle.mdcc_protocol.specs.Recover.{choice_received};
-ghost use Rattle.mdcc_protocol.specs.Volatile.{without_tx};
-ghost use Rattle.mdcc_protocol.specs.declared.votes.Vote.{Vote as AVote};
+ghost use Rattle.mdcc_def_protocol.specs.Learner.{with_counted_vote, learned, collided, learned_with};
+ghost use Rattle.mdcc_def_protocol.specs.Marks.{is_accept};
+ghost use Rattle.mdcc_def_protocol.specs.Recover.{choice_received};
+ghost use Rattle.mdcc_def_protocol.specs.Volatile.{without_tx};
+ghost use Rattle.mdcc_def_protocol.specs.declared.votes.Vote.{Vote as AVote};
 
 use crate::accepted::first_accepted;
 use crate::decided::{copy_of, is_collision, mark_decided, side_of};
 use crate::places::{VotesByTx, counted_on, forget, keep_counted, votes_at};
 use indexmap::IndexMap;
 use mdcc_base::{Key, Memory, Quorums, TxId};
+use mdcc_def_protocol::Vote;
 use mdcc_option::{Choice, Mark};
-use mdcc_protocol::Vote;
 use std::alloc::Global;
 
 /// The votes that count, and what they decide.
@@ -44,7 +44,7 @@ impl Learner {
     /// its transaction and key has another version, or the same ballot and centre.
     pub fn take(&mut self, quorums: &Quorums, vote: &Vote) -> Result<(), Memory>
         ensures ok { (votes : List AVote) → RepresentsVotes self.old quorums.now votes
-            → OnOk result (RepresentsVotes self.new quorums.now (with_vote quorums.now votes vote.now)) }
+            → OnOk result (RepresentsVotes self.new quorums.now (with_counted_vote quorums.now votes vote.now)) }
         ensures err { (known : Sizes) (votes : List AVote) → RepresentsVotes self.old known votes
             → OnErr result (RepresentsVotes self.new known votes) }
     {

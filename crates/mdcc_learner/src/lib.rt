@@ -9,5 +9,5 @@ pub mod outcome;
 mod places;
 
 pub use learner::Learner;
-pub use mdcc_protocol::Vote;
+pub use mdcc_def_protocol::Vote;
 pub use outcome::{LearnedMarks, outcome_of_marks};

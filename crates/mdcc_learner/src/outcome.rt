@@ -1,7 +1,7 @@
 //! The outcome that the marks learned of all options decide.
 ghost use Rattle.std.specs.Prelude.{◌≡◌, ◌≤◌, filter_map, is_some, length, option_and_then};
 ghost use Rattle.std.specs.List.{list_all, list_any};
-ghost use Rattle.mdcc_protocol.specs.Marks.{choice_in, is_reject_found, outcome_of_marks};
+ghost use Rattle.mdcc_def_protocol.specs.Marks.{choice_in, is_reject_found, outcome_of_marks};
 
 use mdcc_base::{BoundedList, Plain};
 use mdcc_option::{Choice, Mark, Outcome};

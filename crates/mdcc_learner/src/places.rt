@@ -4,12 +4,12 @@ ghost use Rattle.mdcc_base.specs.TxId.{tx_eq};
 ghost use Rattle.mdcc_base.specs.declared.identifiers.TxId.{TxId as ATxId};
 ghost use Rattle.mdcc_base.specs.declared.key.Key.{Key as AKey};
 ghost use Rattle.mdcc_learner.specs.Places.{votes_in, votes_at, votes_with, counted_on};
-ghost use Rattle.mdcc_protocol.specs.Learner.{votes_on};
+ghost use Rattle.mdcc_def_protocol.specs.Learner.{votes_on};
 
 use crate::counting::is_counted;
 use indexmap::IndexMap;
 use mdcc_base::{HeapList, Key, Memory, Plain, Quorums, TxId};
-use mdcc_protocol::Vote;
+use mdcc_def_protocol::Vote;
 use std::alloc::Global;
 use std::slice;
 

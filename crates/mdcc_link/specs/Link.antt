@@ -13,7 +13,7 @@ pub data LinkCall : Type 0 where
   Receive : (at size : ℕ) (result : Result Received Failed) (bytes : List ℕ) → LinkCall
 
 -- the calls recorded after one more; after a failed one it may be that no calls are recorded from then on
-pub record AddsCall {T : Type 0} (call : LinkCall) (old new : Option (List LinkCall)) (result : Result T Failed) : Type 0 where
+pub record AddsLinkCall {T : Type 0} (call : LinkCall) (old new : Option (List LinkCall)) (result : Result T Failed) : Type 0 where
   pub ok : OnOk result (new ≡ option_map (λ calls. calls ++ call ∷ []) old)
   pub err : OnErr result ((new ≡ None) ⊎ (new ≡ option_map (λ calls. calls ++ call ∷ []) old))
 

@@ -38,8 +38,8 @@ pub record LinkMemory : Type 0 where
   pub byte_room : ℕ
 
 -- the link is this one, but for the memory that is there
-abbrev pub IsBut : LinkMemory → LinkMemory → Type 0
-IsBut expected link = link ≡ record expected { call_room = link.call_room; byte_room = link.byte_room }
+abbrev pub IsLinkBut : LinkMemory → LinkMemory → Type 0
+IsLinkBut expected link = link ≡ record expected { call_room = link.call_room; byte_room = link.byte_room }
 
 -- nothing was bound, sent or put, and no call was made
 abbrev pub new_link : List ℕ → LinkMemory
@@ -65,8 +65,8 @@ abbrev pub endpoint_of : List Bound → Address → Option ℕ
 endpoint_of bound address = option_map (λ b. b.at) (find (λ b. address_eq b.address address) bound)
 
 -- the first datagram that waits at the endpoint
-abbrev pub first_at : ℕ → List Waiting → Option (List ℕ)
-first_at at waiting = option_map (λ w. w.bytes) (find (λ w. w.at == at) waiting)
+abbrev pub first_waiting_at : ℕ → List Waiting → Option (List ℕ)
+first_waiting_at at waiting = option_map (λ w. w.bytes) (find (λ w. w.at == at) waiting)
 
 -- without the first one that passes
 abbrev pub without_first : {X : Type 0} → (X → Bool) → List X → List X
@@ -111,8 +111,8 @@ faults_after (Receive at size (Err _) bytes) faults = one_more faults
 faults_after _ faults = faults
 
 -- after a call that found memory
-abbrev pub called : LinkCall → LinkMemory → LinkMemory
-called call link = record link {
+abbrev pub link_called : LinkCall → LinkMemory → LinkMemory
+link_called call link = record link {
   calls = link.calls ++ call ∷ [];
   bound = bound_after call link.bound;
   sent = sent_after call link.sent;
@@ -126,8 +126,8 @@ called call link = record link {
 abbrev pub missed_send : LinkMemory → LinkMemory
 missed_send link = record link { whole = false; count = one_more link.count; lost = one_more link.lost }
 
-abbrev pub missed : LinkMemory → LinkMemory
-missed link = record link { whole = false; count = one_more link.count; faults = one_more link.faults }
+abbrev pub link_missed : LinkMemory → LinkMemory
+link_missed link = record link { whole = false; count = one_more link.count; faults = one_more link.faults }
 
 -- ---- answers
 
@@ -146,10 +146,10 @@ found_of false size None = Ok Nothing
 found_of false size (Some bytes) = Ok (Got (min size (length bytes)))
 
 -- the bytes of it that come
-abbrev pub part_of : Bool → ℕ → Option (List ℕ) → List ℕ
-part_of true size first = []
-part_of false size None = []
-part_of false size (Some bytes) = take (min size (length bytes)) bytes
+abbrev pub part_received : Bool → ℕ → Option (List ℕ) → List ℕ
+part_received true size first = []
+part_received false size None = []
+part_received false size (Some bytes) = take (min size (length bytes)) bytes
 
 -- they stand in front of the buffer, and the rest of it stays
 abbrev pub Brings : List ℕ → List ℕ → List ℕ → Type 0
@@ -162,26 +162,26 @@ abbrev pub send_call : LinkMemory → ℕ → Address → List ℕ → LinkCall
 send_call link from to bytes = Send from to bytes (answer_of (is_next_listed link))
 
 abbrev pub receive_answer : LinkMemory → ℕ → ℕ → Result Received Failed
-receive_answer link at size = found_of (is_next_listed link) size (first_at at link.waiting)
+receive_answer link at size = found_of (is_next_listed link) size (first_waiting_at at link.waiting)
 
 abbrev pub receive_part : LinkMemory → ℕ → ℕ → List ℕ
-receive_part link at size = part_of (is_next_listed link) size (first_at at link.waiting)
+receive_part link at size = part_received (is_next_listed link) size (first_waiting_at at link.waiting)
 
 abbrev pub receive_call : LinkMemory → ℕ → ℕ → LinkCall
 receive_call link at size = Receive at size (receive_answer link at size) (receive_part link at size)
 
 -- What a call does: it is made, or it finds no memory. Where room was made sure of it is made, and it uses no more than its own.
-pub record MakesCall {T : Type 0} (answer : Result T Failed) (call : LinkCall) (bytes : ℕ) (unmade old new : LinkMemory) (result : Result T Failed) : Type 0 where
-  pub ok : OnOk result ((result ≡ answer) × IsBut (called call old) new)
-  pub err : OnErr result (((result ≡ answer) × IsBut (called call old) new) ⊎ IsBut unmade new)
-  pub finds : 1 ≤ old.call_room → bytes ≤ old.byte_room → (result ≡ answer) × IsBut (called call old) new
+pub record MakesLinkCall {T : Type 0} (answer : Result T Failed) (call : LinkCall) (bytes : ℕ) (unmade old new : LinkMemory) (result : Result T Failed) : Type 0 where
+  pub ok : OnOk result ((result ≡ answer) × IsLinkBut (link_called call old) new)
+  pub err : OnErr result (((result ≡ answer) × IsLinkBut (link_called call old) new) ⊎ IsLinkBut unmade new)
+  pub finds : 1 ≤ old.call_room → bytes ≤ old.byte_room → (result ≡ answer) × IsLinkBut (link_called call old) new
   pub call_room : old.call_room ≤ new.call_room + 1
   pub byte_room : old.byte_room ≤ new.byte_room + bytes
 
 -- what the trait shows of it
-abbrev pub told_calls : LinkMemory → Option (List LinkCall)
-told_calls link = if link.whole then Some link.calls else None
+abbrev pub told_link_calls : LinkMemory → Option (List LinkCall)
+told_link_calls link = if link.whole then Some link.calls else None
 
 -- and whether a datagram waits at an endpoint is always known
 abbrev pub known_waiting : LinkMemory → ℕ → Option Bool
-known_waiting link at = Some (is_some (first_at at link.waiting))
+known_waiting link at = Some (is_some (first_waiting_at at link.waiting))

@@ -41,9 +41,9 @@ abbrev pub is_quiet : Error → Bool
 is_quiet error = is_quiet_kind (error_kind error) || has_no_buffers (raw_os_error error)
 
 -- what was found by a receive that ended so, if it did not fail
-abbrev pub found_in : Result (ℕ × SocketAddr) Error → Option Received
-found_in (Ok came) = Some (Got came.0)
-found_in (Err error) = if is_quiet error then Some Nothing else None
+abbrev pub received_found : Result (ℕ × SocketAddr) Error → Option Received
+received_found (Ok came) = Some (Got came.0)
+received_found (Err error) = if is_quiet error then Some Nothing else None
 
 -- the endpoint at which a receive brought a datagram
 abbrev pub served_by : ℕ → Result Received Failed → Option ℕ

@@ -14,13 +14,13 @@ use Rattle.mdcc_link.specs.Memory.{SentDatagram, Waiting, bound_after, sent_afte
 abbrev pub bytes_of : Piece → List ℕ → List ℕ
 bytes_of piece pool = take piece.count (drop piece.start pool)
 
-abbrev pub call_of : Noted → List ℕ → LinkCall
-call_of (noted.Bind at address result) bytes = Bind at address result
-call_of (noted.Send from to result) bytes = Send from to bytes result
-call_of (noted.Receive at size result) bytes = Receive at size result bytes
+abbrev pub link_call_of : Noted → List ℕ → LinkCall
+link_call_of (noted.Bind at address result) bytes = Bind at address result
+link_call_of (noted.Send from to result) bytes = Send from to bytes result
+link_call_of (noted.Receive at size result) bytes = Receive at size result bytes
 
 abbrev pub note_in : List ℕ → Note → LinkCall
-note_in pool note = call_of note.call (bytes_of note.piece pool)
+note_in pool note = link_call_of note.call (bytes_of note.piece pool)
 
 abbrev pub sent_in : List ℕ → Dispatch → SentDatagram
 sent_in pool sent = record { from = sent.from; to = sent.to; bytes = bytes_of sent.piece pool }
@@ -34,16 +34,16 @@ pending_after None piece queue = queue
 pending_after (Some at) piece queue = queue ++ record { at = at; piece = piece } ∷ []
 
 -- the piece ends within so many bytes
-abbrev pub IsWithin : ℕ → Piece → Type 0
-IsWithin size piece = piece.start + piece.count ≤ size
+abbrev pub IsPieceWithin : ℕ → Piece → Type 0
+IsPieceWithin size piece = piece.start + piece.count ≤ size
 
-abbrev pub AreWithin : {E : Type 0} → (E → Piece) → ℕ → List E → Type 0
-AreWithin piece size [] = Unit {0}
-AreWithin piece size (e ∷ es) = IsWithin size (piece e) × AreWithin piece size es
+abbrev pub ArePiecesWithin : {E : Type 0} → (E → Piece) → ℕ → List E → Type 0
+ArePiecesWithin piece size [] = Unit {0}
+ArePiecesWithin piece size (e ∷ es) = IsPieceWithin size (piece e) × ArePiecesWithin piece size es
 
 -- the calls, the addresses bound, the datagrams sent and those that wait, and for how many further calls, with how many
 -- bytes, memory is surely there
-pub record Store : Type 0 where
+pub record LinkStore : Type 0 where
   pub calls : List LinkCall
   pub bound : List Bound
   pub sent : List SentDatagram
@@ -51,8 +51,8 @@ pub record Store : Type 0 where
   pub call_room : ℕ
   pub byte_room : ℕ
 
-abbrev pub store_of : List LinkCall → List Bound → List SentDatagram → List Waiting → ℕ → ℕ → Store
-store_of calls bound sent waiting call_room byte_room = record {
+abbrev pub link_store_of : List LinkCall → List Bound → List SentDatagram → List Waiting → ℕ → ℕ → LinkStore
+link_store_of calls bound sent waiting call_room byte_room = record {
   calls = calls;
   bound = bound;
   sent = sent;
@@ -62,16 +62,16 @@ store_of calls bound sent waiting call_room byte_room = record {
 }
 
 -- these are the contents, whatever memory is there
-abbrev pub IsStore : List LinkCall → List Bound → List SentDatagram → List Waiting → Store → Type 0
-IsStore calls bound sent waiting store = store ≡ store_of calls bound sent waiting store.call_room store.byte_room
+abbrev pub IsLinkStore : List LinkCall → List Bound → List SentDatagram → List Waiting → LinkStore → Type 0
+IsLinkStore calls bound sent waiting store = store ≡ link_store_of calls bound sent waiting store.call_room store.byte_room
 
 -- the contents after a call
-abbrev pub Makes : LinkCall → Store → Store → Type 0
-Makes call old new =
-    IsStore (old.calls ++ call ∷ []) (bound_after call old.bound) (sent_after call old.sent) (waiting_after call old.bound old.waiting) new
+abbrev pub MakesContents : LinkCall → LinkStore → LinkStore → Type 0
+MakesContents call old new =
+    IsLinkStore (old.calls ++ call ∷ []) (bound_after call old.bound) (sent_after call old.sent) (waiting_after call old.bound old.waiting) new
 
 -- all pieces are there
 pub record HasPieces (size : ℕ) (notes : List Note) (sends : List Dispatch) (queue : List Pending) : Type 0 where
-  pub calls : AreWithin (λ (n : Note). n.piece) size notes
-  pub sent : AreWithin (λ (s : Dispatch). s.piece) size sends
-  pub waiting : AreWithin (λ (p : Pending). p.piece) size queue
+  pub calls : ArePiecesWithin (λ (n : Note). n.piece) size notes
+  pub sent : ArePiecesWithin (λ (s : Dispatch). s.piece) size sends
+  pub waiting : ArePiecesWithin (λ (p : Pending). p.piece) size queue

@@ -1,7 +1,7 @@
 //! A link for datagrams.
 ghost use Rattle.std.specs.Prelude.{◌≡◌, ℕ, Bool, List, length, IfSome, Option, OnOk};
 ghost use Rattle.mdcc_base.specs.Causes.{HasCause};
-ghost use Rattle.mdcc_link.specs.Link.{LinkCall, AddsCall, ReceivesAtMost, brought};
+ghost use Rattle.mdcc_link.specs.Link.{LinkCall, AddsLinkCall, ReceivesAtMost, brought};
 ghost use Rattle.mdcc_link.specs.Link.LinkCall.{Bind, Send, Receive};
 
 use mdcc_base::{Address, Failed};
@@ -32,14 +32,14 @@ pub trait Link {
 
     /// Lets the endpoint receive what is sent to the address.
     fn bind(&mut self, at: u8, address: Address) -> Result<(), Failed>
-        ensures call { AddsCall (Bind at address result) (calls self.old) (calls self.new) result }
+        ensures call { AddsLinkCall (Bind at address result) (calls self.old) (calls self.new) result }
         ensures cause { HasCause (faults self.old) (faults self.new) result }
         ensures only { OnOk result (faults self.new ≡ faults self.old) }
         ensures sends { lost self.new ≡ lost self.old };
 
     /// Sends a datagram from an endpoint.
     fn send(&mut self, from: u8, to: Address, bytes: &[u8]) -> Result<(), Failed>
-        ensures call { AddsCall (Send from to bytes.now result) (calls self.old) (calls self.new) result }
+        ensures call { AddsLinkCall (Send from to bytes.now result) (calls self.old) (calls self.new) result }
         ensures cause { HasCause (lost self.old) (lost self.new) result }
         ensures only { OnOk result (lost self.new ≡ lost self.old) }
         ensures receives { faults self.new ≡ faults self.old };
@@ -48,7 +48,7 @@ pub trait Link {
     /// than the buffer gives its first bytes.
     fn receive(&mut self, at: u8, into: &mut [u8]) -> Result<Received, Failed>
         ensures bound { ReceivesAtMost result (length into.new) }
-        ensures call { AddsCall (Receive at (length into.new) result (brought result into.new)) (calls self.old) (calls self.new) result }
+        ensures call { AddsLinkCall (Receive at (length into.new) result (brought result into.new)) (calls self.old) (calls self.new) result }
         ensures cause { HasCause (faults self.old) (faults self.new) result }
         ensures only { OnOk result (faults self.new ≡ faults self.old) }
         ensures sends { lost self.new ≡ lost self.old };

@@ -3,9 +3,9 @@ ghost use Rattle.std.specs.Prelude.{◌≡◌, ◌≤◌, ◌+◌, length, slice
 ghost use Rattle.std.specs.Option.{option_map};
 ghost use Rattle.mdcc_base.specs.Causes.{HasCause};
 ghost use Rattle.mdcc_base.specs.Scripts.{one_more};
-ghost use Rattle.mdcc_link.specs.Link.{AddsCall, ReceivesAtMost, brought};
+ghost use Rattle.mdcc_link.specs.Link.{AddsLinkCall, ReceivesAtMost, brought};
 ghost use Rattle.mdcc_link.specs.Link.LinkCall.{Bind, Send, Receive};
-ghost use Rattle.mdcc_link.specs.Memory.{IsBut, MakesCall, Brings, new_link, after_put, missed, missed_send, is_next_listed, answer_of, bind_call, first_at, send_call, receive_answer, receive_part, receive_call, told_calls, known_waiting};
+ghost use Rattle.mdcc_link.specs.Memory.{IsLinkBut, MakesLinkCall, Brings, new_link, after_put, link_missed, missed_send, is_next_listed, answer_of, bind_call, first_waiting_at, send_call, receive_answer, receive_part, receive_call, told_link_calls, known_waiting};
 
 use crate::stored::Stored;
 use crate::{Link, Received};
@@ -51,7 +51,7 @@ impl Model for MemoryLink {
 impl MemoryLink {
     /// A link with no endpoint, with a copy of this script.
     pub fn new(alloc: Global, script: &[u32]) -> Result<MemoryLink, Memory>
-        ensures { IfOk result (λ link. IsBut (new_link script.now) link) }
+        ensures { IfOk result (λ link. IsLinkBut (new_link script.now) link) }
     {
         let script = Vec::from_slice(alloc, script)?;
         Ok(MemoryLink {
@@ -66,7 +66,7 @@ impl MemoryLink {
 
     /// Lets the next so many calls, with so many sent bytes in all, find memory. A `put` takes the room of one of them.
     pub fn reserve(&mut self, calls: u32, bytes: u64) -> Result<(), Memory>
-        ensures same { IsBut self.old self.new }
+        ensures same { IsLinkBut self.old self.new }
         ensures calls { OnOk result (calls ≤ self.new.call_room) }
         ensures bytes { OnOk result (bytes ≤ self.new.byte_room) }
         ensures calls_stay { self.old.call_room ≤ self.new.call_room }
@@ -79,8 +79,8 @@ impl MemoryLink {
 
     /// Lets a datagram wait at an endpoint, after all others. It is no call, and does not count as sent.
     pub fn put(&mut self, at: u8, bytes: &[u8]) -> Result<(), Memory>
-        ensures ok { OnOk result (IsBut (after_put at bytes.now self.old) self.new) }
-        ensures err { OnErr result (IsBut self.old self.new) }
+        ensures ok { OnOk result (IsLinkBut (after_put at bytes.now self.old) self.new) }
+        ensures err { OnErr result (IsLinkBut self.old self.new) }
         ensures calls_stay { self.old.call_room ≤ self.new.call_room + 1 }
         ensures bytes_stay { self.old.byte_room ≤ self.new.byte_room + length bytes.now }
         ensures succeeds { 1 ≤ self.old.call_room → length bytes.now ≤ self.old.byte_room → IsOk result }
@@ -138,7 +138,7 @@ fn answer_of(listed: bool) -> Result<(), Failed>
 }
 
 impl Link for MemoryLink {
-    ghost calls = { told_calls };
+    ghost calls = { told_link_calls };
 
     ghost lost = { λ link. link.lost };
 
@@ -147,13 +147,13 @@ impl Link for MemoryLink {
     ghost waiting = { known_waiting };
 
     fn bind(&mut self, at: u8, address: Address) -> Result<(), Failed>
-        ensures call { AddsCall (Bind at address result) (told_calls self.old) (told_calls self.new) result }
+        ensures call { AddsLinkCall (Bind at address result) (told_link_calls self.old) (told_link_calls self.new) result }
         ensures cause { HasCause self.old.faults self.new.faults result }
         ensures only { OnOk result (self.new.faults ≡ self.old.faults) }
         ensures sends { self.new.lost ≡ self.old.lost }
 
         // It fails by the script, and else only where there is no memory.
-        ensures made { MakesCall (answer_of (is_next_listed self.old)) (bind_call self.old at address) 0 (missed self.old) self.old self.new result }
+        ensures made { MakesLinkCall (answer_of (is_next_listed self.old)) (bind_call self.old at address) 0 (link_missed self.old) self.old self.new result }
     {
         if self.stored.reserve(1, 0).is_err() {
             self.whole = false;
@@ -168,13 +168,13 @@ impl Link for MemoryLink {
     }
 
     fn send(&mut self, from: u8, to: Address, bytes: &[u8]) -> Result<(), Failed>
-        ensures call { AddsCall (Send from to bytes.now result) (told_calls self.old) (told_calls self.new) result }
+        ensures call { AddsLinkCall (Send from to bytes.now result) (told_link_calls self.old) (told_link_calls self.new) result }
         ensures cause { HasCause self.old.lost self.new.lost result }
         ensures only { OnOk result (self.new.lost ≡ self.old.lost) }
         ensures receives { self.new.faults ≡ self.old.faults }
 
         // It fails by the script, and else only where there is no memory.
-        ensures made { MakesCall (answer_of (is_next_listed self.old)) (send_call self.old from to bytes.now) (length bytes.now) (missed_send self.old) self.old self.new result }
+        ensures made { MakesLinkCall (answer_of (is_next_listed self.old)) (send_call self.old from to bytes.now) (length bytes.now) (missed_send self.old) self.old self.new result }
     {
         if self.stored.reserve(1, bytes.len()).is_err() {
             self.whole = false;
@@ -190,14 +190,14 @@ impl Link for MemoryLink {
 
     fn receive(&mut self, at: u8, into: &mut [u8]) -> Result<Received, Failed>
         ensures bound { ReceivesAtMost result (length into.new) }
-        ensures call { AddsCall (Receive at (length into.new) result (brought result into.new)) (told_calls self.old) (told_calls self.new) result }
+        ensures call { AddsLinkCall (Receive at (length into.new) result (brought result into.new)) (told_link_calls self.old) (told_link_calls self.new) result }
         ensures cause { HasCause self.old.faults self.new.faults result }
         ensures only { OnOk result (self.new.faults ≡ self.old.faults) }
         ensures sends { self.new.lost ≡ self.old.lost }
 
         // It fails by the script, and else only where there is no memory. It gives the first datagram that waits, as far as it
         // fits, and leaves the rest of the buffer.
-        ensures made { MakesCall (receive_answer self.old at (length into.old)) (receive_call self.old at (length into.old)) 0 (missed self.old) self.old self.new result }
+        ensures made { MakesLinkCall (receive_answer self.old at (length into.old)) (receive_call self.old at (length into.old)) 0 (link_missed self.old) self.old self.new result }
         ensures buffer { OnOk result (Brings (receive_part self.old at (length into.old)) into.old into.new) }
         ensures unread { OnErr result (into.new ≡ into.old) }
     {
@@ -216,14 +216,14 @@ impl Link for MemoryLink {
     }
 
     fn waits(&self, at: u8) -> bool
-        ensures { result ≡ is_some (first_at at self.now.waiting) }
+        ensures { result ≡ is_some (first_waiting_at at self.now.waiting) }
     {
         self.stored.waits(at)
     }
 
     // Nothing waits for what may come: it comes by `put` alone.
     fn set_wait(&mut self, _milliseconds: u16)
-        ensures calls { told_calls self.new ≡ told_calls self.old }
+        ensures calls { told_link_calls self.new ≡ told_link_calls self.old }
         ensures sends { self.new.lost ≡ self.old.lost }
         ensures receives { self.new.faults ≡ self.old.faults }
         ensures same { self.new ≡ self.old }

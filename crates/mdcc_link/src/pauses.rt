@@ -1,6 +1,6 @@
 //! When a centre has a pause.
 ghost use Rattle.std.specs.Prelude.{◌≡◌, ◌≤◌, ◌+◌, ◌-◌, ◌^◌, min, false};
-ghost use Rattle.mdcc_link.specs.Pauses.{IsNew, after_receive, busy_at, counted, ended, has_pause, is_busy, is_of_pause, limit_for, restarted};
+ghost use Rattle.mdcc_link.specs.Pauses.{IsNewPauses, after_receive, busy_at, busy_counted, has_pause, is_busy, is_of_pause, limit_for, pause_ended, pauses_restarted};
 
 /// After so many datagrams a centre has a pause, whatever waits, where a receive waits for 20 milliseconds at most.
 const BUSY_LIMIT: u32 = 4096;
@@ -24,7 +24,7 @@ fn limit_for(milliseconds: u16) -> u32
 impl Pauses {
     /// Nothing was received yet.
     pub fn new() -> Pauses
-        ensures { IsNew result }
+        ensures { IsNewPauses result }
     {
         Pauses {
             busy: [0; 16],
@@ -42,7 +42,7 @@ impl Pauses {
 
     /// Counts what a centre received at one of its endpoints.
     pub fn count(&mut self, at: u8, weight: u32)
-        ensures counted { self.new ≡ counted at weight self.old }
+        ensures counted { self.new ≡ busy_counted at weight self.old }
         ensures later { busy_at at self.old ≤ busy_at at self.new }
         ensures more { min (busy_at at self.old + weight) (2 ^ 32 - 1) ≤ busy_at at self.new }
     {
@@ -52,7 +52,7 @@ impl Pauses {
 
     /// Counts for the centre anew, since time passes for it by itself.
     pub fn restart(&mut self, at: u8)
-        ensures { self.new ≡ restarted at self.old }
+        ensures { self.new ≡ pauses_restarted at self.old }
     {
         self.busy[usize::from(at % 16)] = 0;
     }
@@ -67,7 +67,7 @@ impl Pauses {
     // Ends the pause, if there is one, and answers whether this centre had it.
     fn end(&mut self, own: u8) -> bool
         ensures had { result ≡ has_pause self.old.pausing own }
-        ensures ended { self.new ≡ ended self.old }
+        ensures ended { self.new ≡ pause_ended self.old }
     {
         match self.pausing.take() {
             Some(centre) => centre == own,

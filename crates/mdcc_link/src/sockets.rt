@@ -1,7 +1,7 @@
 //! What sockets are told and what they answer.
 ghost use Rattle.std.specs.Prelude.{◌≡◌};
 ghost use Rattle.std.specs.IoError.{error_kind, raw_os_error};
-ghost use Rattle.mdcc_link.specs.Sockets.{IsSocketAddress, found_in, has_no_buffers, is_quiet, is_quiet_kind, is_second, served_by};
+ghost use Rattle.mdcc_link.specs.Sockets.{IsSocketAddress, has_no_buffers, is_quiet, is_quiet_kind, is_second, received_found, served_by};
 
 use crate::Received;
 use mdcc_base::{Address, Failed};
@@ -63,7 +63,7 @@ pub fn above_streams(socket: UdpSocket) -> io::Result<UdpSocket> {
 
 /// What was found by a receive that ended so. Else it failed.
 pub fn found(ended: Result<(usize, SocketAddr), Error>) -> Option<Received>
-    ensures { result ≡ found_in ended }
+    ensures { result ≡ received_found ended }
 {
     match ended {
         Ok((count, _)) => Some(Received::Got(count)),

@@ -2,8 +2,8 @@
 ghost use Rattle.std.specs.Prelude.{◌≡◌, ◌≤◌, ◌<◌, ◌+◌, ◌-◌, ◌++◌, ◌∷◌, ◌==◌, [], length, min, map, take, drop, find, position, slice_get, vec_len, vec_capacity, false, is_some, Some, None, Ok, Err, IsOk, IfSome, OnOk, OnErr};
 ghost use Rattle.std.specs.Option.{option_map};
 ghost use Rattle.mdcc_link.specs.Link.LinkCall.{Bind, Send, Receive};
-ghost use Rattle.mdcc_link.specs.Memory.{address_eq, endpoint_of, first_at, without_first, arrived, found_of, part_of, bound_after, sent_after, waiting_after, Brings};
-ghost use Rattle.mdcc_link.specs.Stored.{IsStore, Makes, bytes_of, pending_after};
+ghost use Rattle.mdcc_link.specs.Memory.{address_eq, endpoint_of, first_waiting_at, without_first, arrived, found_of, part_received, bound_after, sent_after, waiting_after, Brings};
+ghost use Rattle.mdcc_link.specs.Stored.{IsLinkStore, MakesContents, bytes_of, pending_after};
 
 use crate::Received;
 use mdcc_base::{Address, Failed};
@@ -79,9 +79,9 @@ pub struct Stored {
 
 impl Model for Stored {
     ghost use Rattle.std.specs.Prelude.{◌-◌, length, map, min, vec_len, vec_capacity};
-    ghost use Rattle.mdcc_link.specs.Stored.{Store, HasPieces, note_in, sent_in, waiting_in};
+    ghost use Rattle.mdcc_link.specs.Stored.{LinkStore, HasPieces, note_in, sent_in, waiting_in};
 
-    ghost Value = { Store };
+    ghost Value = { LinkStore };
 
     ghost view = { λ s. record {
       calls = map (note_in s.bytes.items) s.notes.items;
@@ -216,7 +216,7 @@ impl Stored {
 
     /// Lets so many further calls with so many bytes in all find memory.
     pub fn reserve(&mut self, calls: usize, bytes: usize) -> Result<(), AllocError>
-        ensures same { IsStore self.old.calls self.old.bound self.old.sent self.old.waiting self.new }
+        ensures same { IsLinkStore self.old.calls self.old.bound self.old.sent self.old.waiting self.new }
         ensures calls { OnOk result (calls ≤ self.new.call_room) }
         ensures bytes { OnOk result (bytes ≤ self.new.byte_room) }
         ensures calls_stay { self.old.call_room ≤ self.new.call_room }
@@ -234,7 +234,7 @@ impl Stored {
     /// Adds a bind.
     pub fn bind(&mut self, at: u8, address: Address, answer: Result<(), Failed>)
         requires room { 0 < self.old.call_room }
-        ensures store { Makes (Bind at address answer) self.old self.new }
+        ensures store { MakesContents (Bind at address answer) self.old self.new }
         ensures calls_stay { self.old.call_room ≤ self.new.call_room + 1 }
         ensures bytes_stay { self.old.byte_room ≤ self.new.byte_room }
     {
@@ -255,7 +255,7 @@ impl Stored {
     pub fn send(&mut self, from: u8, to: Address, bytes: &[u8], answer: Result<(), Failed>)
         requires room { 0 < self.old.call_room }
         requires bytes_room { length bytes.now ≤ self.old.byte_room }
-        ensures store { Makes (Send from to bytes.now answer) self.old self.new }
+        ensures store { MakesContents (Send from to bytes.now answer) self.old self.new }
         ensures calls_stay { self.old.call_room ≤ self.new.call_room + 1 }
         ensures bytes_stay { self.old.byte_room ≤ self.new.byte_room + length bytes.now }
     {
@@ -276,7 +276,7 @@ impl Stored {
     pub fn put(&mut self, at: u8, bytes: &[u8])
         requires room { 0 < self.old.call_room }
         requires bytes_room { length bytes.now ≤ self.old.byte_room }
-        ensures store { IsStore self.old.calls self.old.bound self.old.sent (arrived (Some at) bytes.now self.old.waiting) self.new }
+        ensures store { IsLinkStore self.old.calls self.old.bound self.old.sent (arrived (Some at) bytes.now self.old.waiting) self.new }
         ensures calls_stay { self.old.call_room ≤ self.new.call_room + 1 }
         ensures bytes_stay { self.old.byte_room ≤ self.new.byte_room + length bytes.now }
     {
@@ -287,7 +287,7 @@ impl Stored {
     /// Adds a receive that fails.
     pub fn fail_receive(&mut self, at: u8, size: usize)
         requires room { 0 < self.old.call_room }
-        ensures store { Makes (Receive at size (Err (record {})) []) self.old self.new }
+        ensures store { MakesContents (Receive at size (Err (record {})) []) self.old self.new }
         ensures calls_stay { self.old.call_room ≤ self.new.call_room + 1 }
         ensures bytes_stay { self.old.byte_room ≤ self.new.byte_room }
     {
@@ -300,10 +300,10 @@ impl Stored {
     /// Takes the first datagram that waits at the endpoint, and adds that receive.
     pub fn receive(&mut self, at: u8, into: &mut [u8]) -> Received
         requires room { 0 < self.old.call_room }
-        ensures answer { Ok result ≡ found_of false (length into.old) (first_at at self.old.waiting) }
-        ensures buffer { Brings (part_of false (length into.old) (first_at at self.old.waiting)) into.old into.new }
-        ensures store { Makes (Receive at (length into.old) (found_of false (length into.old) (first_at at self.old.waiting))
-            (part_of false (length into.old) (first_at at self.old.waiting))) self.old self.new }
+        ensures answer { Ok result ≡ found_of false (length into.old) (first_waiting_at at self.old.waiting) }
+        ensures buffer { Brings (part_received false (length into.old) (first_waiting_at at self.old.waiting)) into.old into.new }
+        ensures store { MakesContents (Receive at (length into.old) (found_of false (length into.old) (first_waiting_at at self.old.waiting))
+            (part_received false (length into.old) (first_waiting_at at self.old.waiting))) self.old self.new }
         ensures calls_stay { self.old.call_room ≤ self.new.call_room + 1 }
         ensures bytes_stay { self.old.byte_room ≤ self.new.byte_room }
     {
@@ -330,7 +330,7 @@ impl Stored {
 
     /// Whether a datagram waits at the endpoint.
     pub fn waits(&self, at: u8) -> bool
-        ensures { result ≡ is_some (first_at at self.now.waiting) }
+        ensures { result ≡ is_some (first_waiting_at at self.now.waiting) }
     {
         first_piece(self.queue.as_slice(), at).is_some()
     }

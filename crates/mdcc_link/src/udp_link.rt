@@ -2,10 +2,10 @@
 ghost use Rattle.std.specs.Prelude.{List, Option, false, ◌≡◌, ◌++◌, ◌∷◌, ◌==◌, ◌≤◌, ◌+◌, ◌-◌, ◌^◌, [], length, find, map, min, None, Ok, Some, IfSome, OnOk, true};
 ghost use Rattle.std.specs.Option.{option_map};
 ghost use Rattle.mdcc_base.specs.Causes.{HasCause};
-ghost use Rattle.mdcc_link.specs.Link.{AddsCall, LinkCall, ReceivesAtMost, brought};
+ghost use Rattle.mdcc_link.specs.Link.{AddsLinkCall, LinkCall, ReceivesAtMost, brought};
 ghost use Rattle.mdcc_link.specs.Link.LinkCall.{Receive};
 ghost use Rattle.mdcc_link.specs.Sockets.{served_by};
-ghost use Rattle.mdcc_link.specs.Pauses.{IsNew, busy_at, is_of_pause, limit_for};
+ghost use Rattle.mdcc_link.specs.Pauses.{IsNewPauses, busy_at, is_of_pause, limit_for};
 
 use crate::pauses::Pauses;
 use crate::sockets::{above_streams, found, is_second, served_by, socket_address};
@@ -63,7 +63,7 @@ impl<'a, R: Net> UdpLink<'a, R> {
         ensures before { result.before ≡ None }
         ensures wait { result.wait ≡ 20 }
         ensures silence { result.was_silent ≡ false }
-        ensures pauses { IsNew result.pauses }
+        ensures pauses { IsNewPauses result.pauses }
         ensures lost { result.lost ≡ 0 }
         ensures faults { result.faults ≡ 0 }
     {
@@ -211,7 +211,7 @@ impl<'a, R: Net> Link for UdpLink<'a, R> {
 
     fn receive(&mut self, at: u8, into: &mut [u8]) -> Result<Received, Failed>
         ensures bound { ReceivesAtMost result (length into.new) }
-        ensures call { AddsCall (Receive at (length into.new) result (brought result into.new)) None None result }
+        ensures call { AddsLinkCall (Receive at (length into.new) result (brought result into.new)) None None result }
         ensures cause { HasCause self.old.faults self.new.faults result }
         ensures only { OnOk result (self.new.faults ≡ self.old.faults) }
         ensures sends { self.new.lost ≡ self.old.lost }

@@ -1,6 +1,6 @@
 //! The files of a folder as disks.
 use mdcc_disks::Disks;
-use mdcc_files::FileDisks;
+use mdcc_disks_files::FileDisks;
 use std::alloc::Global;
 use std::test::Fail;
 

@@ -7,7 +7,7 @@ use Rattle.std.proofs.lemmas.List.{drop_more, length-take-le, take_at}
 use Rattle.std.specs.Cmp.Lexicographic.{pointwise}
 use Rattle.mdcc_log_file.specs.Log.{is_open}
 use Rattle.mdcc_log_file.specs.Crash.{MayRepair}
-use Rattle.mdcc_log_file.specs.Area.{AreaLog, area_gate, area_mark, copy_generation, front_of, generation_of, is_copy, is_log, is_second, is_torn, newer, only, payloads, payloads_in, payloads_of, read_area, read_taken, taken, with_gate}
+use Rattle.mdcc_log_file.specs.Area.{AreaLog, area_gate, area_mark, copy_generation, front_of, generation_of, is_copy, is_log, is_second, is_torn, newer, only, payloads, payloads_in, payloads_of, read_area, read_area_taken, taken, with_gate}
 use Rattle.mdcc_log.specs.Crash.{IsDead, IsLog, IsOlder}
 use Rattle.mdcc_log.specs.Opening.{MayOpenAs}
 use Rattle.mdcc_log.specs.Reading.{IsReadAs, EndsAtGate}
@@ -40,10 +40,10 @@ pub record SettledAs (area : ℕ) (log : AreaLog) (c : List ℕ) : Type 0 where
   pub read : read_area c ≡ Ok log
 
 read_first : (c d : List ℕ) (log : AreaLog) → taken c d ≡ Ok 0 → read_area c ≡ Ok log → payloads c d ≡ Ok (payloads_of log)
-read_first c d log is read = ap (λ (t : Result ℕ ℕ). payloads_in (read_taken t c d)) is ∙ ap payloads_in read
+read_first c d log is read = ap (λ (t : Result ℕ ℕ). payloads_in (read_area_taken t c d)) is ∙ ap payloads_in read
 
 read_second : (c d : List ℕ) (log : AreaLog) → taken c d ≡ Ok 1 → read_area d ≡ Ok log → payloads c d ≡ Ok (payloads_of log)
-read_second c d log is read = ap (λ (t : Result ℕ ℕ). payloads_in (read_taken t c d)) is ∙ ap payloads_in read
+read_second c d log is read = ap (λ (t : Result ℕ ℕ). payloads_in (read_area_taken t c d)) is ∙ ap payloads_in read
 
 module _ (tears : ℕ → Type 0) (never : tears 1 → ⊥) where
   not_one : (old becomes : ℕ) → old ≢ 1 → (becomes ≡ old) ⊎ ((becomes ≡ 0) ⊎ tears becomes) → becomes ≢ 1
@@ -209,14 +209,14 @@ took first second ps is = by_choice (taken first second) refl
     by_choice (Ok a) same = elim (choice_range (is_copy second) (is_log first) (is_copy first) (nat_le (length first) 9) (copy_generation first) (copy_generation second) a same) [
       | inl zero_is ↦
           let choice' : taken first second ≡ Ok 0 = same ∙ ap (λ (n : ℕ). let ok : Result ℕ ℕ = Ok n in ok) zero_is in
-          let read = read_ok (read_area first) (sym (ap (λ (r : Result ℕ ℕ). payloads_in (read_taken r first second)) choice') ∙ is) in
+          let read = read_ok (read_area first) (sym (ap (λ (r : Result ℕ ℕ). payloads_in (read_area_taken r first second)) choice') ∙ is) in
           record { log = read.0; all = read.1.1; which = inl (choice', read.1.0) }
       | inr one_is ↦
           let choice' : taken first second ≡ Ok 1 = same ∙ ap (λ (n : ℕ). let ok : Result ℕ ℕ = Ok n in ok) one_is in
-          let read = read_ok (read_area second) (sym (ap (λ (r : Result ℕ ℕ). payloads_in (read_taken r first second)) choice') ∙ is) in
+          let read = read_ok (read_area second) (sym (ap (λ (r : Result ℕ ℕ). payloads_in (read_area_taken r first second)) choice') ∙ is) in
           record { log = read.0; all = read.1.1; which = inr (choice', read.1.0) }
     ]
-    by_choice (Err n) same = absurd (broken (sym (ap (λ (r : Result ℕ ℕ). payloads_in (read_taken r first second)) same) ∙ is))
+    by_choice (Err n) same = absurd (broken (sym (ap (λ (r : Result ℕ ℕ). payloads_in (read_area_taken r first second)) same) ∙ is))
       where
         broken : (let err : Result (List (List ℕ)) ℕ = Err n in err) ≡ Ok ps → ⊥
         broken e' = cc

@@ -6,7 +6,7 @@ use Rattle.std.proofs.lemmas.List.{append-nil}
 use Rattle.std.specs.List.{flat_map}
 use Rattle.mdcc_log_file.specs.Log.{log_mark, frame_body, frame_bytes}
 use Rattle.mdcc_log_file.proofs.LogRead.{frames_are_long, none_of, short_more, not_open}
-use Rattle.mdcc_log_file.specs.Area.{Head, AreaLog, area_mark, generation_of, records_of, payloads_of, records_bytes, copy_body, head_bytes, front_of, is_first, is_second, area_gate, is_copy, is_log, generation_in, copy_generation, newer, only, taken, read_area, read_taken, payloads_in, payloads}
+use Rattle.mdcc_log_file.specs.Area.{Head, AreaLog, area_mark, generation_of, records_of, payloads_of, records_bytes, copy_body, head_bytes, front_of, is_first, is_second, area_gate, is_copy, is_log, generation_in, copy_generation, newer, only, taken, read_area, read_area_taken, payloads_in, payloads}
 use Rattle.mdcc_log_file.specs.Area.Head.{Version1, Version2}
 use Rattle.mdcc_log.specs.Crash.{IsHead, IsLog, IsCurrent, IsUndecided, IsDead, IsOlder, IsCopy, IsIdle, payloads_by, ReadsAsEither, CurrentIsRead, BetweenIsRead}
 use Rattle.mdcc_log.specs.Frames.{appended, packed}
@@ -88,14 +88,14 @@ by_area area current other apart = let test : (area == 0) ≡ false = grind (ari
 
 pub current_taken : (area g : ℕ) (current other : List ℕ) → Seen area g current → Other g other → payloads_by area current other ≡ payloads_in (read_area current)
 current_taken area g current other seen loses = elim (cases_eq area 0) [
-  | inl is ↦ ap (λ (n : ℕ). payloads_by n current other) is ∙ ap (λ (t : Result ℕ ℕ). payloads_in (read_taken t current other)) (first_taken current other g (subst (λ (n : ℕ). Seen n g current) is seen) loses)
-  | inr apart ↦ by_area area current other apart ∙ ap (λ (t : Result ℕ ℕ). payloads_in (read_taken t other current)) (second_taken other current area g (omega (arith, apart)) seen loses)
+  | inl is ↦ ap (λ (n : ℕ). payloads_by n current other) is ∙ ap (λ (t : Result ℕ ℕ). payloads_in (read_area_taken t current other)) (first_taken current other g (subst (λ (n : ℕ). Seen n g current) is seen) loses)
+  | inr apart ↦ by_area area current other apart ∙ ap (λ (t : Result ℕ ℕ). payloads_in (read_area_taken t other current)) (second_taken other current area g (omega (arith, apart)) seen loses)
 ]
 
 pub other_taken : (area g h : ℕ) (current other : List ℕ) → Seen area g current → g < h → SeenCopy h other → payloads_by area current other ≡ payloads_in (read_area other)
 other_taken area g h current other seen more copy = elim (cases_eq area 0) [
-  | inl is ↦ ap (λ (n : ℕ). payloads_by n current other) is ∙ ap (λ (t : Result ℕ ℕ). payloads_in (read_taken t current other)) (first_passed current other g h (subst (λ (n : ℕ). Seen n g current) is seen) more copy)
-  | inr apart ↦ by_area area current other apart ∙ ap (λ (t : Result ℕ ℕ). payloads_in (read_taken t other current)) (second_passed other current area g h (omega (arith, apart)) seen more copy)
+  | inl is ↦ ap (λ (n : ℕ). payloads_by n current other) is ∙ ap (λ (t : Result ℕ ℕ). payloads_in (read_area_taken t current other)) (first_passed current other g h (subst (λ (n : ℕ). Seen n g current) is seen) more copy)
+  | inr apart ↦ by_area area current other apart ∙ ap (λ (t : Result ℕ ℕ). payloads_in (read_area_taken t other current)) (second_passed other current area g h (omega (arith, apart)) seen more copy)
 ]
 
 -- ---- the area in use

@@ -3,7 +3,7 @@ use Rattle.std.proofs.Common.{◌≡◌, ◌⊎◌, inl, inr, ℕ, zero, suc, �
 use Rattle.std.proofs.lemmas.Bool.{and_parts, false≢true}
 use Rattle.std.proofs.lemmas.Bool.Decides.{nat_tests}
 use Rattle.mdcc_log_file.specs.Log.{frames_from}
-use Rattle.mdcc_log_file.specs.Area.{AreaLog, Head, area_gate, copy_generation, count_in, fresh, generation_of, is_copy, is_first, is_record, is_second, log_from, next_record, payloads_in, payloads_of, read_area, read_copy, read_taken, record_length, record_of, tail_from, taken, with_tail}
+use Rattle.mdcc_log_file.specs.Area.{AreaLog, Head, area_gate, copy_generation, count_in, fresh, generation_of, is_copy, is_first, is_record, is_second, log_from, next_record, payloads_in, payloads_of, read_area, read_area_taken, read_copy, record_length, record_of, tail_from, taken, with_tail}
 use Rattle.mdcc_log_file.specs.Area.Head.{Version1, Version2}
 use Rattle.mdcc_log.specs.AtRest.{MayBeDue}
 use Rattle.mdcc_log.specs.Crash.{IsHead, IsIdle, IsLog, ReadsAsEither, payloads_by}
@@ -166,9 +166,9 @@ map_left f (inr b) = inr b
 
 pub then_is_read : ThenIsRead
 then_is_read tears never first second zero log p current other range is reads valid may may_other =
-    let read : read_area first ≡ Ok log = sym (ap (λ (t : Result ℕ ℕ). read_taken t first second) is) ∙ reads in
+    let read : read_area first ≡ Ok log = sym (ap (λ (t : Result ℕ ℕ). read_area_taken t first second) is) ∙ reads in
     either_read 0 log p current other (map_left (first_settled tears never first second log current is read valid) may) (map_left (second_beside tears never first second log current is read valid other) may_other)
 then_is_read tears never first second (suc zero) log p current other range is reads valid may may_other =
-    let read : read_area second ≡ Ok log = sym (ap (λ (t : Result ℕ ℕ). read_taken t first second) is) ∙ reads in
+    let read : read_area second ≡ Ok log = sym (ap (λ (t : Result ℕ ℕ). read_area_taken t first second) is) ∙ reads in
     either_read 1 log p current other (map_left (second_settled tears never first second log current is read valid) may) (map_left (first_beside tears never first second log current is read valid other) may_other)
 then_is_read tears never first second (suc (suc n)) log p current other range is reads valid may may_other = absurd (omega (arith, range))

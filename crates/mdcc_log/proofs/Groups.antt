@@ -14,7 +14,7 @@ use Rattle.mdcc_log_file.specs.Area.{AreaLog, generation_of, head_bytes, records
 use Rattle.mdcc_log.specs.AtRest.{IsAtRest, MayBeDue}
 use Rattle.mdcc_log.specs.Crash.{IsBetween, IsCurrent, IsDead, IsIdle, IsLog, IsOlder, payloads_by}
 use Rattle.mdcc_log.specs.Frames.{OpenAreas, IsInUse, IsSpare, other_of, place_of}
-use Rattle.mdcc_log.specs.Groups.{AreFull, IsUndecidedGroup, MayHaveDueGroup, MayHaveGroup, ReadsAsAllOrNone, frames_size, joined, records_size}
+use Rattle.mdcc_log.specs.Groups.{AreFull, IsUndecidedGroup, MayHaveDueGroup, MayHaveGroup, ReadsAsAllOrNone, frames_size, records_size, with_payloads}
 use Rattle.mdcc_log.specs.Room.{IsFull}
 use Rattle.mdcc_log.proofs.Choice.{Seen, copy_is_taken, current_is_read, current_read, current_seen, current_taken, front_is_read, front_seen, idle_other}
 use Rattle.mdcc_log.proofs.Dues.{idle_moment}
@@ -111,24 +111,24 @@ copy_full frames group m P is first second due generation by = (λ p. inr (inr (
     back (inr (inr (also, inl last))) = absurd (generation last)
     back (inr (inr (also, inr past))) = by.1 (omega (arith, exact, group_sizes group, past))
 
-pub joined_front : (log : AreaLog) (group : List (List ℕ)) (e : List ℕ) → 1 ≤ length group → front_of (joined log group) ++ e ≡ front_of log ++ 1 ∷ (group_body group ++ e)
+pub joined_front : (log : AreaLog) (group : List (List ℕ)) (e : List ℕ) → 1 ≤ length group → front_of (with_payloads log group) ++ e ≡ front_of log ++ 1 ∷ (group_body group ++ e)
 joined_front log group e some =
     ap (λ (l : List ℕ). (head_bytes log.head ++ l) ++ e) (flat_map-append frame_bytes log.tail group)
     ∙ ap (λ (l : List ℕ). l ++ e) (sym (append_assoc (head_bytes log.head) (flat_map frame_bytes log.tail) (flat_map frame_bytes group)))
     ∙ append_assoc (front_of log) (flat_map frame_bytes group) e
     ∙ ap (λ (l : List ℕ). front_of log ++ (l ++ e)) (group_frames group some)
 
-pub joined_payloads : (log : AreaLog) (group : List (List ℕ)) → payloads_of (joined log group) ≡ payloads_of log ++ group
+pub joined_payloads : (log : AreaLog) (group : List (List ℕ)) → payloads_of (with_payloads log group) ≡ payloads_of log ++ group
 joined_payloads log group = sym (append_assoc (records_of log.head) log.tail group)
 
-joined_valid : (area : ℕ) (log : AreaLog) (group : List (List ℕ)) → IsLog area log → AreShort group → IsLog area (joined log group)
+joined_valid : (area : ℕ) (log : AreaLog) (group : List (List ℕ)) → IsLog area log → AreShort group → IsLog area (with_payloads log group)
 joined_valid area log group valid short = record { head = valid.head; short = both_short log.tail group valid.short short }
 
 -- ---- what is read
 
 undecided_group_read : (area : ℕ) (log : AreaLog) (group : List (List ℕ)) (bytes : List ℕ) → 1 ≤ length group → IsUndecidedGroup area log group bytes → ReadsAsAllOrNone (payloads_of log) group (payloads_in (read_area bytes))
 undecided_group_read area log group bytes some u = elim (cases_eq u.gate 1) [
-  | inl opened ↦ inr (ap payloads_in (front_is_read area (joined log group) 0 [] bytes (joined_valid area log group u.valid u.short) (omega arith)
+  | inl opened ↦ inr (ap payloads_in (front_is_read area (with_payloads log group) 0 [] bytes (joined_valid area log group u.valid u.short) (omega arith)
       (u.file ∙ ap (λ (n : ℕ). front_of log ++ n ∷ (group_body group ++ 0 ∷ [])) opened ∙ sym (joined_front log group (0 ∷ []) some)))
       ∙ ap (λ (l : List (List ℕ)). let ok : Result (List (List ℕ)) ℕ = Ok l in ok) (joined_payloads log group))
   | inr shut ↦ inl (ap payloads_in (front_is_read area log u.gate (group_body group ++ 0 ∷ []) bytes u.valid shut u.file))
@@ -142,12 +142,12 @@ group_seen : (area : ℕ) (log : AreaLog) (group : List (List ℕ)) (current : L
 group_seen area log group current (inl is) = current_seen area log current is
 group_seen area log group current (inr u) = front_seen area log (u.gate ∷ (group_body group ++ 0 ∷ [])) current u.valid u.file
 
-due_group_read : (area : ℕ) (log : AreaLog) (group : List (List ℕ)) (current other : List ℕ) → 1 ≤ length group → MayHaveDueGroup area log group current → IsIdle (joined log group) other → ReadsAsAllOrNone (payloads_of log) group (payloads_by area current other)
+due_group_read : (area : ℕ) (log : AreaLog) (group : List (List ℕ)) (current other : List ℕ) → 1 ≤ length group → MayHaveDueGroup area log group current → IsIdle (with_payloads log group) other → ReadsAsAllOrNone (payloads_of log) group (payloads_by area current other)
 due_group_read area log group current other some (inr is) idle =
-    inr (current_is_read area (joined log group) current other is idle ∙ ap (λ (l : List (List ℕ)). let ok : Result (List (List ℕ)) ℕ = Ok l in ok) (joined_payloads log group))
-due_group_read area log group current other some (inl may) idle = elim (idle_other (joined log group) other idle) [
+    inr (current_is_read area (with_payloads log group) current other is idle ∙ ap (λ (l : List (List ℕ)). let ok : Result (List (List ℕ)) ℕ = Ok l in ok) (joined_payloads log group))
+due_group_read area log group current other some (inl may) idle = elim (idle_other (with_payloads log group) other idle) [
   | inl loses ↦ subst (λ (r : Result (List (List ℕ)) ℕ). ReadsAsAllOrNone (payloads_of log) group r) (sym (current_taken area (generation_of log.head) current other (group_seen area log group current may) loses)) (group_read area log group current some may)
-  | inr copy ↦ inr (copy_is_taken area (joined log group) current other (group_seen area log group current may) copy ∙ ap (λ (l : List (List ℕ)). let ok : Result (List (List ℕ)) ℕ = Ok l in ok) (joined_payloads log group))
+  | inr copy ↦ inr (copy_is_taken area (with_payloads log group) current other (group_seen area log group current may) copy ∙ ap (λ (l : List (List ℕ)). let ok : Result (List (List ℕ)) ℕ = Ok l in ok) (joined_payloads log group))
 ]
 
 -- ---- an append
@@ -156,15 +156,15 @@ pub stands_group : (area : ℕ) (log : AreaLog) (group : List (List ℕ)) (c : L
 stands_group area log group c valid short (inl shut) = inl (record { valid = valid; file = inr (shut.0, shut.1) })
 stands_group area log group c valid short (inr frames) = inr (record { valid = valid; short = short; gate = frames.0; file = frames.1 })
 
-joined_body : (log : AreaLog) (group : List (List ℕ)) → length (records_bytes (payloads_of (joined log group))) ≡ length (records_bytes (payloads_of log)) + records_size group
+joined_body : (log : AreaLog) (group : List (List ℕ)) → length (records_bytes (payloads_of (with_payloads log group))) ≡ length (records_bytes (payloads_of log)) + records_size group
 joined_body log group =
     ap (λ (l : List (List ℕ)). length (records_bytes l)) (joined_payloads log group) ∙ ap (λ (l : List ℕ). length l) (bodies_both (payloads_of log) group) ∙ length-append (records_bytes (payloads_of log)) (records_bytes group)
 
 pub in_use_joined : (frames new : OpenAreas) (log : AreaLog) (group : List (List ℕ)) (bytes bytes_new : List ℕ) (may may_new : List ℕ → Type 0) → IsInUse frames log bytes may → AreShort group → 1 ≤ length group
     → IsAtEnd (front_of log ++ 1 ∷ group_body group) new.size bytes_new may_new → new.area ≡ frames.area → new.generation ≡ frames.generation → new.count ≡ frames.count + length group → new.start ≡ frames.start → new.tail ≡ frames.tail + length group → new.body ≡ frames.body + records_size group
-    → IsInUse new (joined log group) bytes_new may_new
+    → IsInUse new (with_payloads log group) bytes_new may_new
 in_use_joined frames new log group bytes bytes_new may may_new use' short some rest area generation count start tail body = record {
-  valid = subst (λ (n : ℕ). IsLog n (joined log group)) (sym area) (joined_valid frames.area log group use'.valid short);
+  valid = subst (λ (n : ℕ). IsLog n (with_payloads log group)) (sym area) (joined_valid frames.area log group use'.valid short);
   file = rest.file ∙ append_assoc (front_of log) (1 ∷ group_body group) (0 ∷ []) ∙ sym (joined_front log group (0 ∷ []) some);
   generation = generation ∙ use'.generation;
   count = omega (arith, count, use'.count, ap (λ (l : List (List ℕ)). length l) (joined_payloads log group), length-append (payloads_of log) group);
@@ -211,26 +211,26 @@ module _ {D : Type 0} (disk : D → ℕ → Disk) (may_leave : D → ℕ → Lis
     there : place_of more.centre (other_of more.area) ≡ place_of frames.centre (other_of frames.area)
     there = ap (λ (n : ℕ). place_of n (other_of more.area)) centre_is ∙ ap (λ (n : ℕ). place_of frames.centre (other_of n)) area_is
 
-    pub due_moment : LeavesOnly moment left_since old mid (place_of frames.centre frames.area) (MayHaveGroup frames.area log group) → LeavesOnly moment left_since mid new (place_of more.centre more.area) (IsCurrent more.area (joined log group))
+    pub due_moment : LeavesOnly moment left_since old mid (place_of frames.centre frames.area) (MayHaveGroup frames.area log group) → LeavesOnly moment left_since mid new (place_of more.centre more.area) (IsCurrent more.area (with_payloads log group))
         → LeavesOnly moment left_since old new (place_of frames.centre frames.area) (MayHaveDueGroup frames.area log group)
     due_moment first second =
-        let second_here = subst (λ (n : ℕ). LeavesOnly moment left_since mid new (place_of frames.centre frames.area) (IsCurrent n (joined log group))) area_is (subst (λ (q : ℕ). LeavesOnly moment left_since mid new q (IsCurrent more.area (joined log group))) here second) in
+        let second_here = subst (λ (n : ℕ). LeavesOnly moment left_since mid new (place_of frames.centre frames.area) (IsCurrent n (with_payloads log group))) area_is (subst (λ (q : ℕ). LeavesOnly moment left_since mid new q (IsCurrent more.area (with_payloads log group))) here second) in
         both (weakened (MayHaveDueGroup frames.area log group) first (λ c has. inl has)) (weakened (MayHaveDueGroup frames.area log group) second_here (λ c has. inr has))
 
-    pub due_moment_other : LeavesOnly moment left_since old mid (place_of frames.centre (other_of frames.area)) (IsIdle (joined log group)) → LeavesOnly moment left_since mid new (place_of more.centre (other_of more.area)) (IsIdle (joined log group))
-        → LeavesOnly moment left_since old new (place_of frames.centre (other_of frames.area)) (IsIdle (joined log group))
-    due_moment_other first second = both first (subst (λ (q : ℕ). LeavesOnly moment left_since mid new q (IsIdle (joined log group))) there second)
+    pub due_moment_other : LeavesOnly moment left_since old mid (place_of frames.centre (other_of frames.area)) (IsIdle (with_payloads log group)) → LeavesOnly moment left_since mid new (place_of more.centre (other_of more.area)) (IsIdle (with_payloads log group))
+        → LeavesOnly moment left_since old new (place_of frames.centre (other_of frames.area)) (IsIdle (with_payloads log group))
+    due_moment_other first second = both first (subst (λ (q : ℕ). LeavesOnly moment left_since mid new q (IsIdle (with_payloads log group))) there second)
 
   module _ (old mid : D) (frames : OpenAreas) (all group : List (List ℕ)) (some : 1 ≤ length group) (rest : IsAtRest disk may_leave old frames all)
       (beside : KeepsOthers disk may_leave moment left_since old mid (place_of frames.centre frames.area))
       (first : LeavesOnly moment left_since old mid (place_of frames.centre frames.area) (MayHaveGroup frames.area rest.log group))
     where
-      reads_all : (current other : List ℕ) → MayHaveDueGroup frames.area rest.log group current → IsIdle (joined rest.log group) other → ReadsAsAllOrNone all group (payloads_by frames.area current other)
+      reads_all : (current other : List ℕ) → MayHaveDueGroup frames.area rest.log group current → IsIdle (with_payloads rest.log group) other → ReadsAsAllOrNone all group (payloads_by frames.area current other)
       reads_all current other may idle =
           subst (λ (ps : List (List ℕ)). ReadsAsAllOrNone ps group (payloads_by frames.area current other)) (sym rest.payloads_are) (due_group_read frames.area rest.log group current other some may idle)
 
-      group_other : LeavesOnly moment left_since old mid (place_of frames.centre (other_of frames.area)) (IsIdle (joined rest.log group))
-      group_other = idle_moment disk may_leave moment left_since only_now old mid frames (joined rest.log group) rest.in_use.generation beside rest.spare
+      group_other : LeavesOnly moment left_since old mid (place_of frames.centre (other_of frames.area)) (IsIdle (with_payloads rest.log group))
+      group_other = idle_moment disk may_leave moment left_since only_now old mid frames (with_payloads rest.log group) rest.in_use.generation beside rest.spare
 
       -- where nothing was copied
       pub group_reads : (current other : List ℕ) → left_since mid (place_of frames.centre frames.area) (moment old) current → left_since mid (place_of frames.centre (other_of frames.area)) (moment old) other
@@ -238,8 +238,8 @@ module _ {D : Type 0} (disk : D → ℕ → Disk) (may_leave : D → ℕ → Lis
       group_reads current other left left_other = reads_all current other (inl (first.each current left)) (group_other.each other left_other)
 
       -- and where all were
-      pub due_group_reads : (new : D) (more : OpenAreas) → more.centre ≡ frames.centre → more.area ≡ frames.area → LeavesOnly moment left_since mid new (place_of more.centre more.area) (IsCurrent more.area (joined rest.log group))
-          → LeavesOnly moment left_since mid new (place_of more.centre (other_of more.area)) (IsIdle (joined rest.log group)) → (current other : List ℕ)
+      pub due_group_reads : (new : D) (more : OpenAreas) → more.centre ≡ frames.centre → more.area ≡ frames.area → LeavesOnly moment left_since mid new (place_of more.centre more.area) (IsCurrent more.area (with_payloads rest.log group))
+          → LeavesOnly moment left_since mid new (place_of more.centre (other_of more.area)) (IsIdle (with_payloads rest.log group)) → (current other : List ℕ)
           → left_since new (place_of frames.centre frames.area) (moment old) current → left_since new (place_of frames.centre (other_of frames.area)) (moment old) other → ReadsAsAllOrNone all group (payloads_by frames.area current other)
       due_group_reads new more centre_is area_is second second_other current other left left_other =
           let at_place = due_moment old mid new frames more rest.log group centre_is area_is first second in

@@ -2,7 +2,7 @@
 use Rattle.std.proofs.Common.{◌≡◌, ◌≢◌, inl, inr, ℕ, ◌+◌, ◌<◌, ◌==◌, Bool, cond, false, List, [], ◌∷◌, Result, ◌∙◌, ap, refl, subst, arith}
 use Rattle.std.proofs.lemmas.Bool.{cases_eq}
 use Rattle.std.proofs.lemmas.Bool.Decides.{nat_tests}
-use Rattle.mdcc_log_file.specs.Area.{generation_of, payloads_of, read_area, read_areas, read_taken}
+use Rattle.mdcc_log_file.specs.Area.{generation_of, payloads_of, read_area, read_area_taken, read_areas}
 use Rattle.mdcc_log.specs.Frames.{packed}
 use Rattle.mdcc_log.specs.Tails.{CopyIsRead, IsPassedOver, LogIsRead, read_by}
 use Rattle.mdcc_log.proofs.AreaRead.{shut_no_copy}
@@ -15,14 +15,14 @@ read_apart area current other apart = let test : (area == 0) ≡ false = grind (
 
 pub current_is_taken : (area g : ℕ) (current other : List ℕ) → Seen area g current → Other g other → read_by area current other ≡ read_area current
 current_is_taken area g current other seen loses = elim (cases_eq area 0) [
-  | inl is ↦ ap (λ (n : ℕ). read_by n current other) is ∙ ap (λ (t : Result ℕ ℕ). read_taken t current other) (first_taken current other g (subst (λ (n : ℕ). Seen n g current) is seen) loses)
-  | inr apart ↦ read_apart area current other apart ∙ ap (λ (t : Result ℕ ℕ). read_taken t other current) (second_taken other current area g (omega (arith, apart)) seen loses)
+  | inl is ↦ ap (λ (n : ℕ). read_by n current other) is ∙ ap (λ (t : Result ℕ ℕ). read_area_taken t current other) (first_taken current other g (subst (λ (n : ℕ). Seen n g current) is seen) loses)
+  | inr apart ↦ read_apart area current other apart ∙ ap (λ (t : Result ℕ ℕ). read_area_taken t other current) (second_taken other current area g (omega (arith, apart)) seen loses)
 ]
 
 pub other_is_taken : (area g h : ℕ) (current other : List ℕ) → Seen area g current → g < h → SeenCopy h other → read_by area current other ≡ read_area other
 other_is_taken area g h current other seen more copy = elim (cases_eq area 0) [
-  | inl is ↦ ap (λ (n : ℕ). read_by n current other) is ∙ ap (λ (t : Result ℕ ℕ). read_taken t current other) (first_passed current other g h (subst (λ (n : ℕ). Seen n g current) is seen) more copy)
-  | inr apart ↦ read_apart area current other apart ∙ ap (λ (t : Result ℕ ℕ). read_taken t other current) (second_passed other current area g h (omega (arith, apart)) seen more copy)
+  | inl is ↦ ap (λ (n : ℕ). read_by n current other) is ∙ ap (λ (t : Result ℕ ℕ). read_area_taken t current other) (first_passed current other g h (subst (λ (n : ℕ). Seen n g current) is seen) more copy)
+  | inr apart ↦ read_apart area current other apart ∙ ap (λ (t : Result ℕ ℕ). read_area_taken t other current) (second_passed other current area g h (omega (arith, apart)) seen more copy)
 ]
 
 passed_other : (g : ℕ) (bytes : List ℕ) → IsPassedOver g bytes → Other g bytes

@@ -6,7 +6,7 @@ use Rattle.std.specs.List.{flat_map}
 use Rattle.mdcc_disks.specs.Disks.{Disk, Only}
 use Rattle.mdcc_log_file.specs.Log.{frame_body, frame_bytes}
 use Rattle.mdcc_log_file.specs.declared.area.Spare.{Spare}
-use Rattle.mdcc_log_file.specs.Area.{Head, generation_of, records_of, payloads_of, records_bytes, head_bytes, front_of, area_bytes, read_area, read_areas, read_taken, taken, spare_of}
+use Rattle.mdcc_log_file.specs.Area.{Head, generation_of, records_of, payloads_of, records_bytes, head_bytes, front_of, area_bytes, read_area, read_areas, read_area_taken, taken, spare_of}
 use Rattle.mdcc_log_file.specs.Area.Head.{Version1, Version2}
 use Rattle.mdcc_log.specs.Checkpoint.{head_size}
 use Rattle.mdcc_log.specs.Crash.{IsHead, IsLog, IsDead, IsOlder}
@@ -209,10 +209,10 @@ module _ {D : Type 0} (disk : D → ℕ → Disk) (may_leave : D → ℕ → Lis
 
     areas : (told_one : IsTrue (disk old one).told) (told_two : IsTrue (disk old two).told) → Areas told_one told_two
     areas told_one told_two = elim (cases_eq area 0) [
-      | inl zero_is ↦ record { read = ap (λ (t : Result ℕ ℕ). read_taken t found.first found.second) (chosen 0 zero_is) ∙ first_read zero_is; in_use = first_used zero_is told_one; idle = second_spare zero_is told_two }
+      | inl zero_is ↦ record { read = ap (λ (t : Result ℕ ℕ). read_area_taken t found.first found.second) (chosen 0 zero_is) ∙ first_read zero_is; in_use = first_used zero_is told_one; idle = second_spare zero_is told_two }
       | inr more ↦
           let is : area ≡ 1 = omega (arith, more, taking.range) in
-          record { read = ap (λ (t : Result ℕ ℕ). read_taken t found.first found.second) (chosen 1 is) ∙ second_read is; in_use = second_used is told_two; idle = first_spare is told_one }
+          record { read = ap (λ (t : Result ℕ ℕ). read_area_taken t found.first found.second) (chosen 1 is) ∙ second_read is; in_use = second_used is told_two; idle = first_spare is told_one }
     ]
 
     pub found_opened : (told_one : IsTrue (disk old one).told) (told_two : IsTrue (disk old two).told) → IsOpened disk may_leave moment left_since new frames all (disk old one).bytes (disk old two).bytes

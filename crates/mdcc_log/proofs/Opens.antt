@@ -5,7 +5,7 @@ use Rattle.mdcc_disks.specs.Disks.{Disk, DiskCall}
 use Rattle.mdcc_log_file.specs.Calls.{MadeSome, with_calls}
 use Rattle.mdcc_log_file.proofs.Moments.{both, weakened}
 use Rattle.mdcc_log_file.specs.declared.area.Spare.{Spare}
-use Rattle.mdcc_log_file.specs.Area.{AreaLog, front_of, read_area, read_areas, read_taken, taken, spare_of}
+use Rattle.mdcc_log_file.specs.Area.{AreaLog, front_of, read_area, read_areas, read_area_taken, taken, spare_of}
 use Rattle.mdcc_log.specs.Reading.{AreaIs}
 use Rattle.mdcc_log.specs.Frames.{change_calls, other_calls, settle_calls, spare_calls}
 use Rattle.mdcc_log.specs.Repair.{MayClose, with_closed_gate}
@@ -24,19 +24,19 @@ other_calls_are bytes other log read = sym (ap (λ (r : Result AreaLog ℕ). oth
 
 module _ (first second : List ℕ) (is : taken first second ≡ Ok 0) where
   pub first_calls : settle_calls first ≡ change_calls 0 (taken first second) (read_areas first second) first
-  first_calls = sym (ap (λ (t : Result ℕ ℕ). change_calls 0 t (read_taken t first second) first) is)
+  first_calls = sym (ap (λ (t : Result ℕ ℕ). change_calls 0 t (read_area_taken t first second) first) is)
 
   pub first_bytes : taken_bytes (read_area first) ≡ opened_bytes 0 (taken first second) (read_areas first second) first
-  first_bytes = sym (ap (λ (t : Result ℕ ℕ). opened_bytes 0 t (read_taken t first second) first) is)
+  first_bytes = sym (ap (λ (t : Result ℕ ℕ). opened_bytes 0 t (read_area_taken t first second) first) is)
 
   pub first_may : {tears : ℕ → Type 0} (c : List ℕ) → MaySettleAs tears first c → MayOpenAs tears 0 (taken first second) first c
   first_may c may = inr (inl (is, may))
 
   pub second_calls_then : other_calls (read_area first) second ≡ change_calls 1 (taken first second) (read_areas first second) second
-  second_calls_then = sym (ap (λ (t : Result ℕ ℕ). change_calls 1 t (read_taken t first second) second) is)
+  second_calls_then = sym (ap (λ (t : Result ℕ ℕ). change_calls 1 t (read_area_taken t first second) second) is)
 
   pub second_bytes_then : with_closed_gate second ≡ opened_bytes 1 (taken first second) (read_areas first second) second
-  second_bytes_then = sym (ap (λ (t : Result ℕ ℕ). opened_bytes 1 t (read_taken t first second) second) is)
+  second_bytes_then = sym (ap (λ (t : Result ℕ ℕ). opened_bytes 1 t (read_area_taken t first second) second) is)
 
   pub second_may_then : {tears : ℕ → Type 0} (c : List ℕ) → MayClose tears second c → MayOpenAs tears 1 (taken first second) second c
   second_may_then c may = inr (inr (0, (is, ((λ same. omega (arith, same)), may))))
@@ -45,19 +45,19 @@ module _ (first second : List ℕ) (is : taken first second ≡ Ok 0) where
 
 module _ (first second : List ℕ) (is : taken first second ≡ Ok 1) where
   pub second_calls : settle_calls second ≡ change_calls 1 (taken first second) (read_areas first second) second
-  second_calls = sym (ap (λ (t : Result ℕ ℕ). change_calls 1 t (read_taken t first second) second) is)
+  second_calls = sym (ap (λ (t : Result ℕ ℕ). change_calls 1 t (read_area_taken t first second) second) is)
 
   pub second_bytes : taken_bytes (read_area second) ≡ opened_bytes 1 (taken first second) (read_areas first second) second
-  second_bytes = sym (ap (λ (t : Result ℕ ℕ). opened_bytes 1 t (read_taken t first second) second) is)
+  second_bytes = sym (ap (λ (t : Result ℕ ℕ). opened_bytes 1 t (read_area_taken t first second) second) is)
 
   pub second_may : {tears : ℕ → Type 0} (c : List ℕ) → MaySettleAs tears second c → MayOpenAs tears 1 (taken first second) second c
   second_may c may = inr (inl (is, may))
 
   pub first_calls_then : other_calls (read_area second) first ≡ change_calls 0 (taken first second) (read_areas first second) first
-  first_calls_then = sym (ap (λ (t : Result ℕ ℕ). change_calls 0 t (read_taken t first second) first) is)
+  first_calls_then = sym (ap (λ (t : Result ℕ ℕ). change_calls 0 t (read_area_taken t first second) first) is)
 
   pub first_bytes_then : with_closed_gate first ≡ opened_bytes 0 (taken first second) (read_areas first second) first
-  first_bytes_then = sym (ap (λ (t : Result ℕ ℕ). opened_bytes 0 t (read_taken t first second) first) is)
+  first_bytes_then = sym (ap (λ (t : Result ℕ ℕ). opened_bytes 0 t (read_area_taken t first second) first) is)
 
   pub first_may_then : {tears : ℕ → Type 0} (c : List ℕ) → MayClose tears first c → MayOpenAs tears 0 (taken first second) first c
   first_may_then c may = inr (inr (1, (is, ((λ same. omega (arith, same)), may))))

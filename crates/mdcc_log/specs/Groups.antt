@@ -13,8 +13,8 @@ abbrev pub ReadsAsAllOrNone : List (List ℕ) → List (List ℕ) → Result (Li
 ReadsAsAllOrNone before group read = (read ≡ Ok before) ⊎ (read ≡ Ok (before ++ group))
 
 -- with these payloads behind the others
-abbrev pub joined : AreaLog → List (List ℕ) → AreaLog
-joined log group = record { head = log.head; tail = log.tail ++ group }
+abbrev pub with_payloads : AreaLog → List (List ℕ) → AreaLog
+with_payloads log group = record { head = log.head; tail = log.tail ++ group }
 
 -- this log with the frames of a group behind it, of which the first gate may hold anything
 pub record IsUndecidedGroup (area : ℕ) (log : AreaLog) (group : List (List ℕ)) (bytes : List ℕ) : Type 0 where
@@ -29,7 +29,7 @@ MayHaveGroup area log group bytes = IsCurrent area log bytes ⊎ IsUndecidedGrou
 
 -- and while all are copied then
 abbrev pub MayHaveDueGroup : ℕ → AreaLog → List (List ℕ) → List ℕ → Type 0
-MayHaveDueGroup area log group bytes = MayHaveGroup area log group bytes ⊎ IsCurrent area (joined log group) bytes
+MayHaveDueGroup area log group bytes = MayHaveGroup area log group bytes ⊎ IsCurrent area (with_payloads log group) bytes
 
 -- how many bytes their frames take, and how many their records
 abbrev pub frames_size : List (List ℕ) → ℕ

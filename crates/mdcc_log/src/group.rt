@@ -11,7 +11,7 @@ ghost use Rattle.mdcc_log.specs.AtRest.{IsAtRest};
 ghost use Rattle.mdcc_log_file.specs.Both.{KeepsBut, RoseAtOne};
 ghost use Rattle.mdcc_log.specs.Crash.{IsIdle, payloads_by};
 ghost use Rattle.mdcc_log.specs.Frames.{IsInUse, IsSpare, IsSettled, place_of, other_of};
-ghost use Rattle.mdcc_log.specs.Groups.{AreFull, MayHaveDueGroup, MayHaveGroup, ReadsAsAllOrNone, frames_size, joined, records_size};
+ghost use Rattle.mdcc_log.specs.Groups.{AreFull, MayHaveDueGroup, MayHaveGroup, ReadsAsAllOrNone, frames_size, records_size, with_payloads};
 ghost use Rattle.mdcc_log.specs.Room.{HasGrown};
 ghost use Rattle.mdcc_log.specs.Tails.{tail_with};
 
@@ -75,7 +75,7 @@ impl Frames {
             → IsSettled self.old (D.disk disks.old place).bytes (D.may_leave disks.old place) }
         ensures acknowledged { let place = place_of self.old.centre self.old.area in (log : AreaLog) → IsTrue (D.disk disks.old place).told
             → IsInUse self.old log (D.disk disks.old place).bytes (D.may_leave disks.old place)
-            → OnOk result (IsInUse self.new (joined log (first.now ∷ others.now)) (D.disk disks.new place).bytes (D.may_leave disks.new place)) }
+            → OnOk result (IsInUse self.new (with_payloads log (first.now ∷ others.now)) (D.disk disks.new place).bytes (D.may_leave disks.new place)) }
         ensures any_moment { let place = place_of self.old.centre self.old.area in (log : AreaLog) → IsTrue (D.disk disks.old place).told
             → IsInUse self.old log (D.disk disks.old place).bytes (D.may_leave disks.old place)
             → LeavesOnly D.moment D.left_since disks.old disks.new place (MayHaveGroup self.old.area log (first.now ∷ others.now)) }
@@ -143,7 +143,7 @@ impl Frames {
             (log : AreaLog) → IsTrue (D.disk disks.old place).told → IsTrue (D.disk disks.old other).told
             → IsInUse self.old log (D.disk disks.old place).bytes (D.may_leave disks.old place)
             → IsSpare self.old (D.disk disks.old other).bytes (D.may_leave disks.old other)
-            → LeavesOnly D.moment D.left_since disks.old disks.new other (IsIdle (joined log (first.now ∷ others.now))) }
+            → LeavesOnly D.moment D.left_since disks.old disks.new other (IsIdle (with_payloads log (first.now ∷ others.now))) }
         ensures any_moment_reads { let place = place_of self.old.centre self.old.area in let other = place_of self.old.centre (other_of self.old.area) in
             (all : List (List ℕ)) (current spare : List ℕ) → IsTrue (D.disk disks.old place).told → IsTrue (D.disk disks.old other).told
             → IsAtRest D.disk D.may_leave disks.old self.old all
@@ -202,7 +202,7 @@ impl Frames {
             (log : AreaLog) → IsTrue (D.disk disks.old place).told → IsTrue (D.disk disks.old other).told
             → IsInUse self.old log (D.disk disks.old place).bytes (D.may_leave disks.old place)
             → IsSpare self.old (D.disk disks.old other).bytes (D.may_leave disks.old other)
-            → LeavesOnly D.moment D.left_since disks.old disks.new other (IsIdle (joined log payloads.now)) }
+            → LeavesOnly D.moment D.left_since disks.old disks.new other (IsIdle (with_payloads log payloads.now)) }
 
         // Opening after a crash at any moment of it gives the payloads from before it, or those and all of these.
         ensures any_moment_reads { let place = place_of self.old.centre self.old.area in let other = place_of self.old.centre (other_of self.old.area) in

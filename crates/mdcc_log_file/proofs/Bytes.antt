@@ -2,7 +2,7 @@
 use Rattle.std.proofs.Common.{◌≡◌, ℕ, suc, ◌+◌, ◌<◌, ◌≤◌, List, [], ◌∷◌, ◌++◌, length, get_or, take, drop, sym, ◌∙◌, ap, refl, arith}
 use Rattle.std.proofs.lemmas.List.{take_at, drop_more, take_all, drop_all, append-nil, append_assoc, take-append-drop, take-append-le, length-take-le}
 use Rattle.std.proofs.Math.Seq.{take-add}
-use Rattle.mdcc_disks.specs.Disks.{Holds, IsTorn, IsCut}
+use Rattle.mdcc_disks.specs.Disks.{IsOverwritten, IsTorn, IsCut}
 
 -- one byte is another, and the rest is the same
 pub one_torn : {tears : ℕ → Type 0} (byte : ℕ) (old c : List ℕ) (at : ℕ) → at < length old → IsTorn tears at (byte ∷ []) old c → c ≡ take at old ++ get_or c at 0 ∷ drop (at + 1) old
@@ -11,7 +11,7 @@ one_torn byte old c at within torn =
     ∙ ap (λ (l : List ℕ). l ++ drop at c) torn.before
     ∙ ap (λ (l : List ℕ). take at old ++ l) (drop_more c at 0 (omega (arith, torn.no_shorter)) ∙ ap (λ (l : List ℕ). get_or c at 0 ∷ l) torn.after)
 
-pub one_written : (old new : List ℕ) (at byte : ℕ) → Holds old at (byte ∷ []) new → new ≡ take at old ++ byte ∷ drop (at + 1) old
+pub one_written : (old new : List ℕ) (at byte : ℕ) → IsOverwritten old at (byte ∷ []) new → new ≡ take at old ++ byte ∷ drop (at + 1) old
 one_written old new at byte holds = holds ∙ append_assoc (take at old) (byte ∷ []) (drop (at + 1) old)
 
 -- a file whose part from here on is torn keeps its front
@@ -20,7 +20,7 @@ end_torn old c bytes torn =
     sym (take-append-drop (length old) c)
     ∙ ap (λ (l : List ℕ). l ++ drop (length old) c) (torn.before ∙ take_all (length old) old (omega arith))
 
-pub end_written : (old bytes new : List ℕ) → Holds old (length old) bytes new → new ≡ old ++ bytes
+pub end_written : (old bytes new : List ℕ) → IsOverwritten old (length old) bytes new → new ≡ old ++ bytes
 end_written old bytes new holds =
     holds
     ∙ ap (λ (l : List ℕ). l ++ bytes ++ drop (length old + length bytes) old) (take_all (length old) old (omega arith))

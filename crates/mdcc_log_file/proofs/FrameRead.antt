@@ -4,7 +4,7 @@ use Rattle.std.proofs.Math.Seq.{drop-append_seam}
 use Rattle.std.proofs.lemmas.List.{append-nil, drop-drop, take-append-drop}
 use Rattle.std.proofs.lemmas.Grind.{flat_map-append}
 use Rattle.std.specs.List.{flat_map}
-use Rattle.mdcc_log_file.specs.Log.{frame_bytes, is_open, is_whole, frames_from, behind}
+use Rattle.mdcc_log_file.specs.Log.{frame_bytes, is_open, is_whole_frame, frames_from, behind}
 use Rattle.mdcc_log_file.specs.Crash.{AreShort}
 use Rattle.mdcc_log_file.specs.Frames.{AreFrames}
 use Rattle.mdcc_log_file.proofs.LogRead.{frames_are_read, frames_are_long}
@@ -24,12 +24,12 @@ pub frames_size_more : (tail : List (List ℕ)) (p : List ℕ) → length (flat_
 frames_size_more tail p =
     omega (arith, ap (λ (l : List ℕ). length l) (flat_map-append frame_bytes tail (p ∷ [])), length-append (flat_map frame_bytes tail) (frame_bytes p ++ []), length-append (frame_bytes p) [])
 
-broken_frame : (most offset : ℕ) (e : List ℕ) → 0 < most → is_open e ≡ true → is_whole e ≡ false → frames_from most offset e ≡ Err offset
+broken_frame : (most offset : ℕ) (e : List ℕ) → 0 < most → is_open e ≡ true → is_whole_frame e ≡ false → frames_from most offset e ≡ Err offset
 broken_frame zero offset e some opened broken = absurd (omega arith)
 broken_frame (suc most) offset e some opened broken = rw (opened, broken) refl
 
 -- an open gate where no frame stands
-pub frame_break : (most start gate n : ℕ) (tail : List (List ℕ)) (rest bytes : List ℕ) → drop start bytes ≡ flat_map frame_bytes tail ++ rest → AreShort tail → 0 < length rest → gate ≡ start + length (flat_map frame_bytes tail) → is_open rest ≡ true → is_whole rest ≡ false → gate ≡ n
+pub frame_break : (most start gate n : ℕ) (tail : List (List ℕ)) (rest bytes : List ℕ) → drop start bytes ≡ flat_map frame_bytes tail ++ rest → AreShort tail → 0 < length rest → gate ≡ start + length (flat_map frame_bytes tail) → is_open rest ≡ true → is_whole_frame rest ≡ false → gate ≡ n
     → length (drop start bytes) ≤ most → frames_from most start (drop start bytes) ≡ Err n
 frame_break most start gate n tail rest bytes front short more ends opened broken same enough =
     let left = most - length tail in

@@ -3,14 +3,14 @@ use Rattle.std.proofs.Common.{◌≡◌, ◌≢◌, ◌⊎◌, inl, inr, ⊎_eli
 use Rattle.std.proofs.lemmas.Bool.{cases_lt, false≢true}
 use Rattle.std.proofs.lemmas.Bool.Decides.{nat_tests}
 use Rattle.std.proofs.lemmas.List.{drop_more, drop_all, get_or-take}
-use Rattle.mdcc_disks.specs.Disks.{Holds, IsTorn, IsCut}
+use Rattle.mdcc_disks.specs.Disks.{IsOverwritten, IsTorn, IsCut}
 use Rattle.mdcc_log_file.proofs.Bytes.{one_torn}
 use Rattle.mdcc_log_file.specs.declared.area.Spare.TheVariants as spares
 use Rattle.mdcc_log_file.specs.Area.{area_mark, area_gate, is_second, is_torn, spare_of, with_gate}
 use Rattle.mdcc_log_file.specs.Copying.{IsShut, MayShut}
 
 -- a mark over the first bytes of nine
-pub mark_written : (old new : List ℕ) → length old ≡ 9 → area_gate old ≡ 0 → Holds old 0 area_mark new → new ≡ area_mark ++ 0 ∷ []
+pub mark_written : (old new : List ℕ) → length old ≡ 9 → area_gate old ≡ 0 → IsOverwritten old 0 area_mark new → new ≡ area_mark ++ 0 ∷ []
 mark_written old new nine shut holds =
     let last : drop 8 old ≡ get_or old 8 0 ∷ drop 9 old = drop_more old 8 0 (omega arith) in
     holds ∙ ap (λ (l : List ℕ). area_mark ++ l) (last ∙ ap (λ (n : ℕ). n ∷ drop 9 old) shut ∙ ap (λ (l : List ℕ). 0 ∷ l) (drop_all 9 old (omega arith)))

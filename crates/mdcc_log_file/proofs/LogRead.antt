@@ -4,16 +4,16 @@ use Rattle.std.proofs.Math.Seq.{take-append_seam, drop-append_seam}
 use Rattle.std.proofs.lemmas.Bool.Decides.{nat_tests}
 use Rattle.std.proofs.lemmas.Nat.{from_le_bytes-to_le_bytes_4}
 use Rattle.std.specs.List.{flat_map}
-use Rattle.mdcc_log_file.specs.Log.{is_open, is_whole, stated_length, payload_of, next_of, frame_bytes, payload_limit, behind, frames_from}
+use Rattle.mdcc_log_file.specs.Log.{is_open, is_whole_frame, stated_length, payload_of, next_of, frame_bytes, payload_limit, behind, frames_from}
 use Rattle.mdcc_log_file.specs.Crash.{AreShort}
 
 length_is_read : (p e : List ℕ) → length p ≤ payload_limit → stated_length (frame_bytes p ++ e) ≡ length p
 length_is_read p e short = from_le_bytes-to_le_bytes_4 (length p) (omega arith)
 
-whole_is : (rest : List ℕ) (n : ℕ) → stated_length rest ≡ n → n ≤ payload_limit → 5 + n < length rest → is_whole rest ≡ true
+whole_is : (rest : List ℕ) (n : ℕ) → stated_length rest ≡ n → n ≤ payload_limit → 5 + n < length rest → is_whole_frame rest ≡ true
 whole_is rest n is short within = let long : 5 ≤ length rest = omega arith in rw is (grind (arith, nat_tests))
 
-frame_step : (most offset n : ℕ) (rest p e : List ℕ) → is_open rest ≡ true → is_whole rest ≡ true → stated_length rest ≡ n → payload_of rest ≡ p → next_of rest ≡ e
+frame_step : (most offset n : ℕ) (rest p e : List ℕ) → is_open rest ≡ true → is_whole_frame rest ≡ true → stated_length rest ≡ n → payload_of rest ≡ p → next_of rest ≡ e
     → frames_from (suc most) offset rest ≡ behind (p ∷ []) (frames_from most (offset + (5 + n)) e)
 frame_step most offset n rest p e opened whole len payload next = rw (opened, whole, payload, next, len) refl
 

@@ -169,13 +169,13 @@ read_area bytes =
     else (if is_first bytes then with_tail Version1 (frames_from (length bytes) 8 (drop 8 bytes))
     else (if is_copy bytes then read_copy (copy_generation bytes) bytes else Err 0))
 
-abbrev pub read_taken : Result ℕ ℕ → List ℕ → List ℕ → Result AreaLog ℕ
-read_taken (Ok area) first second = if area == 0 then read_area first else read_area second
-read_taken (Err offset) first second = Err offset
+abbrev pub read_area_taken : Result ℕ ℕ → List ℕ → List ℕ → Result AreaLog ℕ
+read_area_taken (Ok area) first second = if area == 0 then read_area first else read_area second
+read_area_taken (Err offset) first second = Err offset
 
 -- the log in two areas, or the offset of what is no log
 abbrev pub read_areas : List ℕ → List ℕ → Result AreaLog ℕ
-read_areas first second = read_taken (taken first second) first second
+read_areas first second = read_area_taken (taken first second) first second
 
 abbrev pub payloads_in : Result AreaLog ℕ → Result (List (List ℕ)) ℕ
 payloads_in (Ok log) = Ok (payloads_of log)

@@ -52,8 +52,8 @@ abbrev pub next_of : List ℕ → List ℕ
 next_of rest = drop (stated_length rest) (drop 5 rest)
 
 -- The length is no more than a payload has, and the frame lies in the bytes, with a gate behind it.
-abbrev pub is_whole : List ℕ → Bool
-is_whole rest = nat_le 5 (length rest) && (nat_le (stated_length rest) payload_limit && nat_lt (5 + stated_length rest) (length rest))
+abbrev pub is_whole_frame : List ℕ → Bool
+is_whole_frame rest = nat_le 5 (length rest) && (nat_le (stated_length rest) payload_limit && nat_lt (5 + stated_length rest) (length rest))
 
 -- these payloads, and then what else was read
 abbrev pub behind : List (List ℕ) → Result (List (List ℕ)) ℕ → Result (List (List ℕ)) ℕ
@@ -66,7 +66,7 @@ abbrev pub frames_from : ℕ → ℕ → List ℕ → Result (List (List ℕ)) �
 frames_from zero offset rest = Ok []
 frames_from (suc most) offset rest =
     if is_open rest
-    then (if is_whole rest
+    then (if is_whole_frame rest
     then behind (payload_of rest ∷ []) (frames_from most (offset + (5 + stated_length rest)) (next_of rest))
     else Err offset)
     else Ok []

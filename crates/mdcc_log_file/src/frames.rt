@@ -2,7 +2,7 @@
 ghost use Rattle.std.specs.Prelude.{◌≡◌, ◌≤◌, ◌<◌, ◌+◌, ◌++◌, ◌↔◌, false, true, ℕ, length, take, drop, IsTrue, IsSome, IfSome, IfNone, IfOk, IsErrOf, Err};
 ghost use Rattle.std.specs.Int.{w32, to_le_bytes};
 ghost use Rattle.mdcc_log_file.specs.Frames.{AreFrames};
-ghost use Rattle.mdcc_log_file.specs.Log.{frame_bytes, frames_from, is_open, is_whole, payload_limit};
+ghost use Rattle.mdcc_log_file.specs.Log.{frame_bytes, frames_from, is_open, is_whole_frame, payload_limit};
 
 use crate::LogFault;
 use mdcc_base::HeapList;
@@ -26,7 +26,7 @@ pub fn is_open(rest: &[u8]) -> bool
 
 /// The length of the payload at an open gate, where a frame stands there with a gate behind it.
 pub fn frame_length(rest: &[u8]) -> Option<usize>
-    ensures whole { IsSome result ↔ IsTrue (is_whole rest.now) }
+    ensures whole { IsSome result ↔ IsTrue (is_whole_frame rest.now) }
     ensures short { IfSome result (λ n. n ≤ payload_limit) }
     ensures within { IfSome result (λ n. 5 + n < length rest.now) }
     ensures spelled { IfSome result (λ n. take 4 (drop 1 rest.now) ≡ to_le_bytes w32 n) }
@@ -45,7 +45,7 @@ pub fn frame_length(rest: &[u8]) -> Option<usize>
 /// The payload at an open gate and what stands behind it, where a frame stands there with a gate behind it.
 pub fn next_frame(rest: &[u8]) -> Option<(&[u8], &[u8])>
     requires { is_open rest.now ≡ true }
-    ensures none { IfNone result (is_whole rest.now ≡ false) }
+    ensures none { IfNone result (is_whole_frame rest.now ≡ false) }
     ensures frame { IfSome result (λ r. rest.now ≡ frame_bytes r.0.now ++ r.1.now) }
     ensures short { IfSome result (λ r. length r.0.now ≤ payload_limit) }
     ensures more { IfSome result (λ r. 0 < length r.1.now) }

@@ -1,7 +1,7 @@
 //! Changes of a file that are durable before they are answered.
 ghost use Rattle.std.specs.Prelude.{◌≡◌, ◌≤◌, ◌∷◌, [], length, take, IsTrue, OnOk};
 ghost use Rattle.mdcc_base.specs.Causes.{HasCause};
-ghost use Rattle.mdcc_disks.specs.Disks.{Holds, IsTorn, IsCut, Only, KeepsOthers, LeavesOnly};
+ghost use Rattle.mdcc_disks.specs.Disks.{IsOverwritten, IsTorn, IsCut, Only, KeepsOthers, LeavesOnly};
 ghost use Rattle.mdcc_disks.specs.Disks.DiskCall.{Write, Cut, Sync};
 ghost use Rattle.mdcc_log_file.specs.Log.{log_bytes};
 ghost use Rattle.mdcc_log_file.specs.Calls.{MadeSome, with_calls, begin_calls};
@@ -22,7 +22,7 @@ pub fn write_through<D: Disks>(
     requires durable { IsTrue (D.disk disks.old place).told
         → Only (D.disk disks.old place).bytes (D.may_leave disks.old place) }
     ensures written { IsTrue (D.disk disks.old place).told
-        → OnOk result (Holds (D.disk disks.old place).bytes offset bytes.now (D.disk disks.new place).bytes) }
+        → OnOk result (IsOverwritten (D.disk disks.old place).bytes offset bytes.now (D.disk disks.new place).bytes) }
     ensures durable { IsTrue (D.disk disks.old place).told
         → OnOk result (Only (D.disk disks.new place).bytes (D.may_leave disks.new place)) }
     ensures any_moment { IsTrue (D.disk disks.old place).told

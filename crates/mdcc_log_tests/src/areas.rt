@@ -6,7 +6,7 @@ use crate::groups::numbered;
 use mdcc_base::{Centre, HeapList, Image};
 use mdcc_disks::{Disks, MemoryDisks};
 use mdcc_log::{Frames, LogFault};
-use mdcc_log_stops::append_due_until;
+use mdcc_world_log_stops::append_due_until;
 use std::alloc::Global;
 use std::test::Fail;
 

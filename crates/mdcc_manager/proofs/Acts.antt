@@ -7,11 +7,11 @@ use Rattle.mdcc_base.specs.declared.identifiers.TxId.{TxId}
 use Rattle.mdcc_base.specs.declared.key.Key.{Key}
 use Rattle.mdcc_option.specs.declared.choices.Cause.{Cause}
 use Rattle.mdcc_option.specs.declared.choices.Outcome.{Outcome}
-use Rattle.mdcc_protocol.specs.Learner.{collided, is_learned}
-use Rattle.mdcc_protocol.specs.Manager.{act_on_cause, act_on_vote, acted, after_act, choice_unled, decision, lead_act, on_escalate}
-use Rattle.mdcc_protocol.specs.Volatile.{Managing, is_open}
-use Rattle.mdcc_protocol.specs.declared.manager.ManagerAct.{ManagerAct}
-use Rattle.mdcc_protocol.specs.declared.votes.Vote.{Vote}
+use Rattle.mdcc_def_protocol.specs.Learner.{collided, is_learned}
+use Rattle.mdcc_def_protocol.specs.Manager.{act_on_cause, act_on_vote, acted, after_act, choice_unled, decision, lead_act, on_escalate}
+use Rattle.mdcc_def_protocol.specs.Volatile.{Managing, is_opened}
+use Rattle.mdcc_def_protocol.specs.declared.manager.ManagerAct.{ManagerAct}
+use Rattle.mdcc_def_protocol.specs.declared.votes.Vote.{Vote}
 
 -- a collision that decides nothing leads the choice
 pub act-collided : (quorums : Sizes) (managing : Managing) (vote : Vote)
@@ -41,11 +41,11 @@ act-quiet quorums managing vote outcome none e = rw (← none, ← e) refl
 
 -- what is open and not learned is acted on
 pub escalate-awaited : (quorums : Sizes) (managing : Managing) (from : ℕ) (tx : TxId) (key : Key) (cause : Cause)
-    → true ≡ (is_open managing tx && not (is_learned quorums managing.votes tx key))
+    → true ≡ (is_opened managing tx && not (is_learned quorums managing.votes tx key))
     → on_escalate quorums managing from tx key cause ≡ acted managing (act_on_cause quorums managing from tx key cause)
 escalate-awaited quorums managing from tx key cause e = rw (← e) refl
 
 pub escalate-closed : (quorums : Sizes) (managing : Managing) (from : ℕ) (tx : TxId) (key : Key) (cause : Cause)
-    → false ≡ (is_open managing tx && not (is_learned quorums managing.votes tx key))
+    → false ≡ (is_opened managing tx && not (is_learned quorums managing.votes tx key))
     → on_escalate quorums managing from tx key cause ≡ (None, managing)
 escalate-closed quorums managing from tx key cause e = rw (← e) refl

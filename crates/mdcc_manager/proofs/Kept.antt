@@ -12,11 +12,11 @@ use Rattle.mdcc_manager.specs.Opened.{kept_choice, kept_of, led_at, led_in, unle
 use Rattle.mdcc_manager.specs.declared.opened.OpenTransaction.{OpenTransaction}
 use Rattle.mdcc_option.proofs.Equal.{Decides-key}
 use Rattle.mdcc_option.specs.declared.choices.Choice.{Choice}
-use Rattle.mdcc_protocol.specs.Learner.{decision_of, learned, learned_with, with_vote}
-use Rattle.mdcc_protocol.specs.Manager.{choice_at, decision, keys_of_choices, vote_taken, would_decide}
-use Rattle.mdcc_protocol.specs.Marks.{outcome_of_marks}
-use Rattle.mdcc_protocol.specs.Volatile.{Managing, Undecided, has_key, is_open, opened_of}
-use Rattle.mdcc_protocol.specs.declared.votes.Vote.{Vote}
+use Rattle.mdcc_def_protocol.specs.Learner.{decision_of, learned, learned_with, with_counted_vote}
+use Rattle.mdcc_def_protocol.specs.Manager.{choice_on_key, decision, keys_of_choices, vote_taken, would_decide}
+use Rattle.mdcc_def_protocol.specs.Marks.{outcome_of_marks}
+use Rattle.mdcc_def_protocol.specs.Volatile.{Managing, Undecided, has_key, is_opened, opened_of}
+use Rattle.mdcc_def_protocol.specs.declared.votes.Vote.{Vote}
 
 pub key_eq-same : (a b : Key) → key_eq a b ≡ true → a ≡ b
 key_eq-same a b e = (Decides-key a b).0 e
@@ -29,7 +29,7 @@ same_answer false true x y = absurd (let e = x.1 (y.0 refl) in cc)
 same_answer false false x y = refl
 
 pub unled_at-kept : (led : List Key) (choices : List Choice) (key : Key)
-    → unled_at (map (kept_choice led) choices) key ≡ (if has_key led key then None else choice_at choices key)
+    → unled_at (map (kept_choice led) choices) key ≡ (if has_key led key then None else choice_on_key choices key)
 unled_at-kept led [] key = grind arith
 unled_at-kept led (c ∷ cs) key =
     let ih = unled_at-kept led cs key in
@@ -94,7 +94,7 @@ decision-found quorums votes tx (Some t) found e =
     rw (same, marks-kept (learned quorums votes tx) t.led t.choices) refl
 
 pub unled-found : (t : Option Undecided) (found : OpenTransaction) (key : Key) → Some found ≡ option_map kept_of t
-    → unled_at found.choices key ≡ option_and_then (λ t. if has_key t.led key then None else choice_at t.choices key) t
+    → unled_at found.choices key ≡ option_and_then (λ t. if has_key t.led key then None else choice_on_key t.choices key) t
 unled-found None found key e = absurd (cc)
 unled-found (Some t) found key e =
     let same : found ≡ kept_of t = cc in
@@ -114,11 +114,11 @@ pub found-kept : (kept : List OpenTransaction) (managing : Managing) (tx : TxId)
 found-kept kept managing tx found e keeps = e ∙ (rw keeps (find-kept managing.opened tx))
 
 -- what a vote changes is known by whether its transaction is open
-pub vote_taken-open : (quorums : Sizes) (managing : Managing) (vote : Vote) → is_open managing vote.tx ≡ true
-    → vote_taken quorums managing vote ≡ record managing { votes = with_vote quorums managing.votes vote }
+pub vote_taken-open : (quorums : Sizes) (managing : Managing) (vote : Vote) → is_opened managing vote.tx ≡ true
+    → vote_taken quorums managing vote ≡ record managing { votes = with_counted_vote quorums managing.votes vote }
 vote_taken-open quorums managing vote e = rw e refl
 
-pub vote_taken-closed : (quorums : Sizes) (managing : Managing) (vote : Vote) → is_open managing vote.tx ≡ false
+pub vote_taken-closed : (quorums : Sizes) (managing : Managing) (vote : Vote) → is_opened managing vote.tx ≡ false
     → vote_taken quorums managing vote ≡ managing
 vote_taken-closed quorums managing vote e = rw e refl
 
@@ -128,7 +128,7 @@ pub would_decide-found : (quorums : Sizes) (managing : Managing) (vote : Vote) (
     ≡ would_decide quorums managing vote
 would_decide-found quorums managing vote found e =
     let opened = sym (some-found (opened_of managing vote.tx) (Some found) e) in
-    decision-found quorums (with_vote quorums managing.votes vote) vote.tx (opened_of managing vote.tx) found e
+    decision-found quorums (with_counted_vote quorums managing.votes vote) vote.tx (opened_of managing vote.tx) found e
     ∙ sym (ap (λ m. decision quorums m vote.tx) (vote_taken-open quorums managing vote opened))
 
 pub would_decide-none : (quorums : Sizes) (managing : Managing) (vote : Vote) → None ≡ option_map kept_of (opened_of managing vote.tx)

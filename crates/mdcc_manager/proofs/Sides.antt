@@ -6,7 +6,7 @@ use Rattle.std.proofs.lemmas.Bool.{cases_Bool}
 use Rattle.mdcc_manager.specs.Sides.{are_deciding, is_reject_side}
 use Rattle.mdcc_option.specs.declared.choices.Mark.{Mark}
 use Rattle.mdcc_option.specs.declared.choices.Outcome.{Outcome}
-use Rattle.mdcc_protocol.specs.Marks.{is_accept, is_reject_found, outcome_of_marks}
+use Rattle.mdcc_def_protocol.specs.Marks.{is_accept, is_reject_found, outcome_of_marks}
 
 pub some-side : (mark : Option Mark) → is_some (option_map is_accept mark) ≡ is_some mark
 some-side None = refl

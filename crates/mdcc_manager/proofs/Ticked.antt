@@ -13,10 +13,10 @@ use Rattle.mdcc_manager.specs.declared.opened.OpenChoice.{OpenChoice}
 use Rattle.mdcc_manager.specs.declared.opened.OpenTransaction.{OpenTransaction}
 use Rattle.mdcc_option.proofs.Equal.{Decides-key}
 use Rattle.mdcc_option.specs.declared.choices.Choice.{Choice}
-use Rattle.mdcc_protocol.specs.Learner.{is_learned}
-use Rattle.mdcc_protocol.specs.Manager.{acts_at, choices_unlearned, is_odd, led_with, ticked_transaction}
-use Rattle.mdcc_protocol.specs.Volatile.{Undecided, has_key, next_count}
-use Rattle.mdcc_protocol.specs.declared.votes.Vote.{Vote}
+use Rattle.mdcc_def_protocol.specs.Learner.{is_learned}
+use Rattle.mdcc_def_protocol.specs.Manager.{acts_at, choices_unlearned, is_odd, led_with, ticked_transaction}
+use Rattle.mdcc_def_protocol.specs.Volatile.{Undecided, has_key, next_count}
+use Rattle.mdcc_def_protocol.specs.declared.votes.Vote.{Vote}
 
 pub choices-kept : (led : List Key) (choices : List Choice) → map (λ entry. entry.choice) (map (kept_choice led) choices) ≡ choices
 choices-kept led [] = refl

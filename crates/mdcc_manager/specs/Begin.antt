@@ -2,7 +2,7 @@
 use Rattle.std.specs.Prelude.{Bool, Err, Ok, Result, false, true}
 use Rattle.mdcc_base.specs.declared.identifiers.TxId.{TxId}
 use Rattle.mdcc_option.specs.declared.faults.BeginFault.{BeginFault}
-use Rattle.mdcc_protocol.specs.Volatile.{Managing}
+use Rattle.mdcc_def_protocol.specs.Volatile.{Managing}
 
 abbrev pub is_begin_memory : BeginFault → Bool
 is_begin_memory BeginFault.Memory = true

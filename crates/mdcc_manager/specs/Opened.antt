@@ -7,7 +7,7 @@ use Rattle.mdcc_base.specs.declared.key.Key.{Key}
 use Rattle.mdcc_manager.specs.declared.opened.OpenChoice.{OpenChoice}
 use Rattle.mdcc_manager.specs.declared.opened.OpenTransaction.{OpenTransaction}
 use Rattle.mdcc_option.specs.declared.choices.Choice.{Choice}
-use Rattle.mdcc_protocol.specs.Volatile.{Undecided, has_key}
+use Rattle.mdcc_def_protocol.specs.Volatile.{Undecided, has_key}
 
 -- a choice beside the keys that are marked led
 abbrev pub kept_choice : List Key → Choice → OpenChoice

@@ -5,7 +5,7 @@ use Rattle.mdcc_learner.specs.Represents.{RepresentsVotes}
 use Rattle.mdcc_manager.specs.Numbered.{are_numbered}
 use Rattle.mdcc_manager.specs.Opened.{kept_of}
 use Rattle.mdcc_manager.specs.declared.manager.Manager.{Manager}
-use Rattle.mdcc_protocol.specs.Volatile.{Managing, txs_opened}
+use Rattle.mdcc_def_protocol.specs.Volatile.{Managing, txs_opened}
 
 -- at this centre, in its epoch and in a cluster with these quorums
 pub record RepresentsManaging (manager : Manager) (me epoch : ℕ) (quorums : Sizes) (managing : Managing) : Type 0 where

@@ -5,11 +5,11 @@ use Rattle.mdcc_base.specs.declared.identifiers.TxId.{TxId}
 use Rattle.mdcc_manager.specs.declared.opened.OpenChoice.{OpenChoice}
 use Rattle.mdcc_manager.specs.declared.opened.OpenTransaction.{OpenTransaction}
 use Rattle.mdcc_option.specs.declared.choices.Choice.{Choice}
-use Rattle.mdcc_protocol.specs.Learner.{is_learned}
-use Rattle.mdcc_protocol.specs.Manager.{act_at, is_odd}
-use Rattle.mdcc_protocol.specs.Volatile.{next_count}
-use Rattle.mdcc_protocol.specs.declared.manager.ManagerAct.{ManagerAct}
-use Rattle.mdcc_protocol.specs.declared.votes.Vote.{Vote}
+use Rattle.mdcc_def_protocol.specs.Learner.{is_learned}
+use Rattle.mdcc_def_protocol.specs.Manager.{act_at, is_odd}
+use Rattle.mdcc_def_protocol.specs.Volatile.{next_count}
+use Rattle.mdcc_def_protocol.specs.declared.manager.ManagerAct.{ManagerAct}
+use Rattle.mdcc_def_protocol.specs.declared.votes.Vote.{Vote}
 
 -- the choices that are not learned
 abbrev pub unlearned_in : Sizes → List Vote → TxId → List OpenChoice → List Choice

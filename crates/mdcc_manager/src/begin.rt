@@ -1,10 +1,10 @@
 //! Why a transaction cannot be begun, by what the centre holds.
 ghost use Rattle.std.specs.Prelude.{◌≡◌, List};
 ghost use Rattle.mdcc_option.specs.Equality.{txs_eq};
-ghost use Rattle.mdcc_protocol.specs.Facts.{token_of};
-ghost use Rattle.mdcc_protocol.specs.Manager.{add_fault, first_key, part_begin_fault, parts_begin_fault, update_begin_fault, write_fault};
-ghost use Rattle.mdcc_protocol.specs.Manager.{key_refused as key_refused_of};
-ghost use Rattle.mdcc_messages.specs.declared.facts.Fact.{Fact as AFact};
+ghost use Rattle.mdcc_def_protocol.specs.Facts.{token_of};
+ghost use Rattle.mdcc_def_protocol.specs.Manager.{add_fault, first_key, part_begin_fault, parts_begin_fault, update_begin_fault, write_fault};
+ghost use Rattle.mdcc_def_protocol.specs.Manager.{key_refused as key_refused_of};
+ghost use Rattle.mdcc_def_messages.specs.declared.facts.Fact.{Fact as AFact};
 
 use mdcc_base::{Key, Plain};
 use mdcc_facts::FactStore;

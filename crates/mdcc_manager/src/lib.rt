@@ -9,5 +9,5 @@ mod ticks;
 
 pub use begin::key_refused;
 pub use manager::Manager;
+pub use mdcc_def_protocol::ManagerAct;
 pub use mdcc_option::BeginFault;
-pub use mdcc_protocol::ManagerAct;

@@ -10,21 +10,21 @@ ghost use Rattle.mdcc_base.specs.declared.identifiers.Ballot.{Ballot as ABallot}
 ghost use Rattle.mdcc_manager.specs.Begin.{is_begin_memory, tx_begun};
 ghost use Rattle.mdcc_manager.specs.Numbered.{are_numbered};
 ghost use Rattle.mdcc_manager.specs.Represents.{RepresentsManaging};
-ghost use Rattle.mdcc_protocol.specs.Learner.{is_learned};
-ghost use Rattle.mdcc_protocol.specs.Manager.{act_on_cause, act_on_vote, acted, after_act, begin, begun_transaction, choice_unled, decision, lead_act, on_escalate, on_voted, tick, vote_taken, would_decide};
-ghost use Rattle.mdcc_protocol.specs.Volatile.{Managing, is_open, manager_closed, txs_opened, with_led};
-ghost use Rattle.mdcc_protocol.specs.declared.manager.ManagerAct.{ManagerAct as AManagerAct};
-ghost use Rattle.mdcc_messages.specs.declared.facts.Fact.{Fact as AFact};
+ghost use Rattle.mdcc_def_protocol.specs.Learner.{is_learned};
+ghost use Rattle.mdcc_def_protocol.specs.Manager.{act_on_cause, act_on_vote, acted, after_act, begin, begun_transaction, choice_unled, decision, lead_act, on_escalate, on_voted, tick, vote_taken, would_decide};
+ghost use Rattle.mdcc_def_protocol.specs.Volatile.{Managing, is_opened, manager_closed, txs_opened, with_led};
+ghost use Rattle.mdcc_def_protocol.specs.declared.manager.ManagerAct.{ManagerAct as AManagerAct};
+ghost use Rattle.mdcc_def_messages.specs.declared.facts.Fact.{Fact as AFact};
 
 use crate::begin::parts_begin_fault;
 use crate::marks::{are_deciding, marks_learned, marks_with, sides_learned, sides_with};
 use crate::opened::{OpenChoices, OpenTransaction, close, close_tx, mark_led, opened_of};
 use crate::ticks::{acts_of, count_tick};
 use mdcc_base::{Centre, Key, Memory, Quorums, TxId};
+use mdcc_def_protocol::{ManagerAct, Vote};
 use mdcc_facts::FactStore;
 use mdcc_learner::{Learner, outcome_of_marks};
 use mdcc_option::{BeginFault, Cause, Choice, Cluster, Outcome, Transaction};
-use mdcc_protocol::{ManagerAct, Vote};
 use std::alloc::Global;
 
 /// The transactions that a centre began in one of its epochs and has not closed, with the votes
@@ -218,7 +218,7 @@ impl Manager {
     // Whether the transaction is open, and no mark of its option for the key is learned.
     fn is_awaited(&self, tx: TxId, key: &Key) -> bool
         ensures { (me epoch : ℕ) (quorums : Sizes) (managing : Managing) → RepresentsManaging self.now me epoch quorums managing
-            → result ≡ (is_open managing tx && not (is_learned quorums managing.votes tx key.now)) }
+            → result ≡ (is_opened managing tx && not (is_learned quorums managing.votes tx key.now)) }
     {
         self.is_open(tx) && self.learner.side(tx, key).is_none()
     }
@@ -338,7 +338,7 @@ impl Manager {
     /// Whether the transaction is open.
     pub fn is_open(&self, tx: TxId) -> bool
         ensures { (me epoch : ℕ) (quorums : Sizes) (managing : Managing) → RepresentsManaging self.now me epoch quorums managing
-            → result ≡ is_open managing tx }
+            → result ≡ is_opened managing tx }
     {
         opened_of(&self.opened, &tx).is_some()
     }

@@ -3,14 +3,14 @@ ghost use Rattle.std.specs.Prelude.{◌≡◌, ◌≤◌, List, length, map, opt
 ghost use Rattle.mdcc_base.specs.Sizes.{Sizes};
 ghost use Rattle.mdcc_learner.specs.Represents.{RepresentsVotes};
 ghost use Rattle.mdcc_manager.specs.Sides.{are_deciding};
-ghost use Rattle.mdcc_protocol.specs.Learner.{learned, learned_with};
-ghost use Rattle.mdcc_protocol.specs.Marks.{is_accept};
-ghost use Rattle.mdcc_protocol.specs.declared.votes.Vote.{Vote as AVote};
+ghost use Rattle.mdcc_def_protocol.specs.Learner.{learned, learned_with};
+ghost use Rattle.mdcc_def_protocol.specs.Marks.{is_accept};
+ghost use Rattle.mdcc_def_protocol.specs.declared.votes.Vote.{Vote as AVote};
 
 use crate::opened::OpenChoice;
 use mdcc_base::{BoundedList, Quorums, TxId};
+use mdcc_def_protocol::Vote;
 use mdcc_learner::{LearnedMarks, Learner};
-use mdcc_protocol::Vote;
 
 /// For each option of a transaction whether the mark that is learned accepts, where one is.
 pub(crate) type Sides = BoundedList<Option<bool>, 8>;

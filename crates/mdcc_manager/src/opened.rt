@@ -7,8 +7,8 @@ ghost use Rattle.mdcc_learner.specs.Represents.{RepresentsVotes};
 ghost use Rattle.mdcc_manager.specs.Opened.{led_at, led_in, open_choices, unled_at};
 ghost use Rattle.mdcc_manager.specs.Ticks.{led_unlearned};
 ghost use Rattle.mdcc_option.specs.Transaction.{choices_of};
-ghost use Rattle.mdcc_protocol.specs.Learner.{is_learned};
-ghost use Rattle.mdcc_protocol.specs.declared.votes.Vote.{Vote as AVote};
+ghost use Rattle.mdcc_def_protocol.specs.Learner.{is_learned};
+ghost use Rattle.mdcc_def_protocol.specs.declared.votes.Vote.{Vote as AVote};
 
 use mdcc_base::{Key, Memory, Plain, TxId};
 use mdcc_learner::Learner;

@@ -3,15 +3,15 @@ ghost use Rattle.std.specs.Prelude.{◌≡◌, ◌++◌, IfOk, List, OnOk, flat_
 ghost use Rattle.mdcc_base.specs.Sizes.{Sizes};
 ghost use Rattle.mdcc_learner.specs.Represents.{RepresentsVotes};
 ghost use Rattle.mdcc_manager.specs.Ticks.{acts_in, ticked_in};
-ghost use Rattle.mdcc_protocol.specs.Manager.{act_at};
-ghost use Rattle.mdcc_protocol.specs.Volatile.{next_count};
-ghost use Rattle.mdcc_protocol.specs.declared.votes.Vote.{Vote as AVote};
+ghost use Rattle.mdcc_def_protocol.specs.Manager.{act_at};
+ghost use Rattle.mdcc_def_protocol.specs.Volatile.{next_count};
+ghost use Rattle.mdcc_def_protocol.specs.declared.votes.Vote.{Vote as AVote};
 
 use crate::opened::{OpenTransaction, is_unlearned};
 use mdcc_base::{Memory, Plain};
+use mdcc_def_protocol::ManagerAct;
 use mdcc_learner::Learner;
 use mdcc_option::Choice;
-use mdcc_protocol::ManagerAct;
 use std::alloc::Global;
 
 // A count that rises by one, and stands still at its type's end.

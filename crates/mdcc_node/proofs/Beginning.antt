@@ -12,15 +12,15 @@ use Rattle.mdcc_node.specs.declared.node.Node.{Node}
 use Rattle.mdcc_option.specs.declared.cluster.Cluster.{Cluster}
 use Rattle.mdcc_option.specs.declared.faults.BeginFault.{BeginFault}
 use Rattle.mdcc_option.specs.declared.items.Part.{Part}
-use Rattle.mdcc_protocol.specs.Facts.{epoch_of}
-use Rattle.mdcc_protocol.specs.Manager.{begin, begin_with, begin_fault, begun_transaction}
-use Rattle.mdcc_rules.specs.ManagerRules.{begin_step, begin_step_by, begun_step}
-use Rattle.mdcc_protocol.specs.Manager.{key_refused}
-use Rattle.mdcc_rules.specs.Steps.{answering}
-use Rattle.mdcc_protocol.specs.Volatile.{Volatile}
-use Rattle.mdcc_messages.specs.declared.facts.Fact.{Fact}
-use Rattle.mdcc_rules.specs.declared.node.Answer.{Answer}
-use Rattle.mdcc_rules.specs.Here.{here}
+use Rattle.mdcc_def_protocol.specs.Facts.{epoch_of}
+use Rattle.mdcc_def_protocol.specs.Manager.{begin, begin_with, begin_fault, begun_transaction}
+use Rattle.mdcc_def_rules.specs.ManagerRules.{begin_step, begin_step_by, begun_step}
+use Rattle.mdcc_def_protocol.specs.Manager.{key_refused}
+use Rattle.mdcc_def_rules.specs.Steps.{answering}
+use Rattle.mdcc_def_protocol.specs.Volatile.{Volatile}
+use Rattle.mdcc_def_messages.specs.declared.facts.Fact.{Fact}
+use Rattle.mdcc_def_rules.specs.declared.node.Answer.{Answer}
+use Rattle.mdcc_def_rules.specs.Here.{here}
 
 module _ (cluster : Cluster) (me : ℕ) (facts : List Fact) (volatile : Volatile) (parts : List Part) where
   begun-by : (tx : TxId) (fault : Option (Key × BeginFault))

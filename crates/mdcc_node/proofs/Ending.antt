@@ -9,44 +9,44 @@ use Rattle.mdcc_base.specs.declared.faults.Memory.{Memory}
 use Rattle.mdcc_base.specs.declared.identifiers.Ballot.{Ballot}
 use Rattle.mdcc_base.specs.declared.identifiers.TxId.{TxId}
 use Rattle.mdcc_base.specs.declared.key.Key.{Key}
-use Rattle.mdcc_messages.specs.declared.facts.Fact.{Fact}
-use Rattle.mdcc_messages.specs.declared.messages.Envelope.{Envelope}
-use Rattle.mdcc_messages.specs.declared.messages.Message.{Message}
+use Rattle.mdcc_def_messages.specs.declared.facts.Fact.{Fact}
+use Rattle.mdcc_def_messages.specs.declared.messages.Envelope.{Envelope}
+use Rattle.mdcc_def_messages.specs.declared.messages.Message.{Message}
 use Rattle.mdcc_node.specs.StepPlans.{MayFollow, kept_by, planned, unsettled_sent}
 use Rattle.mdcc_option.specs.declared.choices.Choice.{Choice}
 use Rattle.mdcc_option.specs.declared.choices.Mark.{Mark}
 use Rattle.mdcc_option.specs.declared.choices.Outcome.{Outcome}
 use Rattle.mdcc_option.specs.declared.cluster.Cluster.{Cluster}
-use Rattle.mdcc_protocol.specs.Acceptor.{on_accept, on_propose, promise_answer, range_end}
-use Rattle.mdcc_protocol.specs.Facts.{is_finished, is_heard, is_settled, outcome_kept, promise_of, promised_through, vote_of, votes_of}
-use Rattle.mdcc_protocol.specs.Leader.{claim_of_choice, on_promise}
-use Rattle.mdcc_protocol.specs.Learner.{decision_of}
-use Rattle.mdcc_protocol.specs.Manager
-use Rattle.mdcc_protocol.specs.Recover
-use Rattle.mdcc_protocol.specs.News.{is_news}
-use Rattle.mdcc_protocol.specs.Volatile.{Managing, Recovering, Volatile, is_open}
-use Rattle.mdcc_protocol.specs.declared.acceptor.AcceptAnswer.{AcceptAnswer}
-use Rattle.mdcc_protocol.specs.declared.acceptor.PrepareAnswer.{PrepareAnswer}
-use Rattle.mdcc_protocol.specs.declared.acceptor.ProposeAnswer.{ProposeAnswer}
-use Rattle.mdcc_protocol.specs.declared.leader.LeadFault.{LeadFault}
-use Rattle.mdcc_protocol.specs.declared.leader.Promise.{Promise}
-use Rattle.mdcc_protocol.specs.declared.manager.ManagerAct.{ManagerAct}
-use Rattle.mdcc_protocol.specs.declared.visible.Give.{Give}
-use Rattle.mdcc_protocol.specs.declared.votes.Vote.{Vote}
-use Rattle.mdcc_rules.specs.AcceptorRules.{accept_step, accepted_step, all_votes_sent, ask_step, ask_step_after, ask_step_by, prepare_step, prepared_step, propose_step, proposed_step, votes_sent}
-use Rattle.mdcc_rules.specs.Messages.{to_one}
-use Rattle.mdcc_rules.specs.LeaderRules.{lead_step, lead_step_after, led_of, promised_by_answer, step_of_led}
-use Rattle.mdcc_rules.specs.ManagerRules.{acted_step, opened_step, voted_step, watched_step}
-use Rattle.mdcc_rules.specs.Node.{message_step}
-use Rattle.mdcc_rules.specs.Steps.{NodeStep, StepPart, nothing_done, sending}
-use Rattle.mdcc_rules.specs.SyncRules.{outcome_step, outcome_step_by, sync_give_step, sync_give_step_by}
-use Rattle.mdcc_rules.specs.declared.node.Step.{Step}
+use Rattle.mdcc_def_protocol.specs.Acceptor.{on_accept, on_propose, promise_answer, range_end}
+use Rattle.mdcc_def_protocol.specs.Facts.{is_finished, is_heard, is_settled, outcome_kept, promise_of, promised_through, vote_of, votes_of}
+use Rattle.mdcc_def_protocol.specs.Leader.{claim_of_choice, on_promise}
+use Rattle.mdcc_def_protocol.specs.Learner.{decision_of}
+use Rattle.mdcc_def_protocol.specs.Manager
+use Rattle.mdcc_def_protocol.specs.Recover
+use Rattle.mdcc_def_protocol.specs.News.{is_news}
+use Rattle.mdcc_def_protocol.specs.Volatile.{Managing, Recovering, Volatile, is_opened}
+use Rattle.mdcc_def_protocol.specs.declared.acceptor.AcceptAnswer.{AcceptAnswer}
+use Rattle.mdcc_def_protocol.specs.declared.acceptor.PrepareAnswer.{PrepareAnswer}
+use Rattle.mdcc_def_protocol.specs.declared.acceptor.ProposeAnswer.{ProposeAnswer}
+use Rattle.mdcc_def_protocol.specs.declared.leader.LeadFault.{LeadFault}
+use Rattle.mdcc_def_protocol.specs.declared.leader.Promise.{Promise}
+use Rattle.mdcc_def_protocol.specs.declared.manager.ManagerAct.{ManagerAct}
+use Rattle.mdcc_def_protocol.specs.declared.visible.Give.{Give}
+use Rattle.mdcc_def_protocol.specs.declared.votes.Vote.{Vote}
+use Rattle.mdcc_def_rules.specs.AcceptorRules.{accept_step, accepted_step, all_votes_sent, ask_step, ask_step_after, ask_step_by, prepare_step, prepared_step, propose_step, proposed_step, votes_sent}
+use Rattle.mdcc_def_rules.specs.Messages.{to_one}
+use Rattle.mdcc_def_rules.specs.LeaderRules.{lead_step, lead_step_after, led_of, promised_by_answer, step_of_led}
+use Rattle.mdcc_def_rules.specs.ManagerRules.{acted_step, opened_step, voted_step, watched_step}
+use Rattle.mdcc_def_rules.specs.Node.{message_step}
+use Rattle.mdcc_def_rules.specs.Steps.{NodeStep, StepPart, nothing_done, sending}
+use Rattle.mdcc_def_rules.specs.SyncRules.{outcome_step, outcome_step_by, sync_give_step, sync_give_step_by}
+use Rattle.mdcc_def_rules.specs.declared.node.Step.{Step}
 use Rattle.mdcc_struct.specs.Maps.{value_of}
 use Rattle.mdcc_struct.specs.declared.options.Options.{Options}
 use Rattle.mdcc_struct.proofs.Walks.{drop-get}
 use Rattle.mdcc_node.proofs.Planned.{Ends, EndsIn, SendsAlone}
 use Rattle.mdcc_node.proofs.Unvoted.{new_vote}
-use Rattle.mdcc_rules.specs.Here.{here}
+use Rattle.mdcc_def_rules.specs.Here.{here}
 
 -- ---- rules whose fact is all that they change
 
@@ -214,7 +214,7 @@ module _ (volatile : Volatile) where
   ends-voted : (cluster : Cluster) (me : ℕ) (facts : List Fact) (vote : Vote)
       → EndsIn volatile (Ok (voted_step (here cluster me facts) volatile vote))
   ends-voted cluster me facts vote =
-      ends-either (is_settled facts vote.tx) (is_open volatile.manager vote.tx) _ _ _ tt
+      ends-either (is_settled facts vote.tx) (is_opened volatile.manager vote.tx) _ _ _ tt
       (ends-opened cluster me facts vote (Manager.would_decide cluster.quorums volatile.manager vote))
       (ends-watched cluster me facts vote (Recover.would_decide cluster.quorums facts volatile.recovery vote))
 

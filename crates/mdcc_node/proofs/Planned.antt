@@ -5,26 +5,26 @@ use Rattle.std.specs.Prelude.{OnErr, OnOk, ⊤}
 use Rattle.std.proofs.lemmas.Bool.{cases_Bool}
 use Rattle.mdcc_base.specs.Unless.{GivesUnless}
 use Rattle.mdcc_facts.specs.Adding.{add_result}
-use Rattle.mdcc_messages.specs.declared.facts.Fact.{Fact}
-use Rattle.mdcc_messages.specs.declared.messages.Envelope.{Envelope}
-use Rattle.mdcc_node.specs.MethodEffects.{ended}
-use Rattle.mdcc_node.specs.StepPlans.{FitsFrame, PlanFitsFrame, kept, kept_by, plan_of, planned, sends_after, written}
+use Rattle.mdcc_def_messages.specs.declared.facts.Fact.{Fact}
+use Rattle.mdcc_def_messages.specs.declared.messages.Envelope.{Envelope}
+use Rattle.mdcc_node.specs.MethodEffects.{closed_if_ended}
+use Rattle.mdcc_node.specs.StepPlans.{FitsFrame, PlanFitsFrame, kept_by, plan_of, planned, sends_after, unless_refused, volatile_kept}
 use Rattle.mdcc_node.specs.Represents.{RepresentsAfter, RepresentsCentre}
 use Rattle.mdcc_node.specs.StepAnswers.{OnMemory, Room, UnlessMemory, step_result, if_added, is_step_memory, step_if, if_plan_added, if_fact_added, with_store}
 use Rattle.mdcc_node.specs.declared.node.Node.{Node}
 use Rattle.mdcc_option.specs.declared.cluster.Cluster.{Cluster}
-use Rattle.mdcc_protocol.specs.Volatile.{Volatile}
-use Rattle.mdcc_protocol.specs.declared.stores.StoreFault.{StoreFault}
-use Rattle.mdcc_rules.specs.Steps.{NodeStep, heard_by, with_new}
-use Rattle.mdcc_rules.specs.declared.node.Step.{Step}
-use Rattle.mdcc_rules.specs.declared.node.StepFault.{StepFault}
+use Rattle.mdcc_def_protocol.specs.Volatile.{Volatile}
+use Rattle.mdcc_def_protocol.specs.declared.stores.StoreFault.{StoreFault}
+use Rattle.mdcc_def_rules.specs.Steps.{NodeStep, heard_by, with_new}
+use Rattle.mdcc_def_rules.specs.declared.node.Step.{Step}
+use Rattle.mdcc_def_rules.specs.declared.node.StepFault.{StepFault}
 
 -- ---- the end of a transaction closes it
 
 -- a step that adds a fact changes nothing but what the fact ends
 abbrev pub Ends : Volatile → Volatile → Option Fact → Type 0
 Ends volatile after None = ⊤
-Ends volatile after (Some fact) = after ≡ ended (heard_by (Some fact)) volatile
+Ends volatile after (Some fact) = after ≡ closed_if_ended (heard_by (Some fact)) volatile
 
 abbrev pub EndsIn : Volatile → Result NodeStep StepFault → Type 0
 EndsIn volatile (Ok step) = Ends volatile step.after step.fact
@@ -77,10 +77,10 @@ fault-given room facts fault (Ok step) e =
 module _ {S : Type 0} (stands : S → List Fact → Type 0) (node : Node S) (cluster : Cluster) (me : ℕ) (facts : List Fact) (volatile : Volatile) where
   left-if : (room : Room) (plan : Step) (fact : Fact) (step : NodeStep) (result : Result (Unit {0}) StepFault) (after : Step) (answer : Result (Unit {0}) StoreFault)
       → step.fact ≡ Some fact → Ends volatile step.after (Some fact)
-      → GivesUnless is_step_memory (written result after) (step_if plan fact answer)
-      → OnOk result (RepresentsCentre stands node cluster me (fact ∷ facts) (ended (heard_by (Some fact)) volatile))
+      → GivesUnless is_step_memory (unless_refused result after) (step_if plan fact answer)
+      → OnOk result (RepresentsCentre stands node cluster me (fact ∷ facts) (closed_if_ended (heard_by (Some fact)) volatile))
       → OnErr result (RepresentsCentre stands node cluster me facts volatile)
-      → UnlessMemory (written result after) (RepresentsAfter stands node cluster me facts volatile (if_added step answer))
+      → UnlessMemory (unless_refused result after) (RepresentsAfter stands node cluster me facts volatile (if_added step answer))
   left-if room plan fact step (Ok done) after (Ok added) is ends e ok err = rw (is, ends) ok
   left-if room plan fact step (Ok done) after (Err fault) is ends e ok err = absurd (cc)
   left-if room plan fact step (Err fault) after (Ok added) is ends e ok err =
@@ -95,9 +95,9 @@ module _ {S : Type 0} (stands : S → List Fact → Type 0) (node : Node S) (clu
       ]
 
   left-none : (plan : Step) (step : NodeStep) (result : Result (Unit {0}) StepFault) (after : Step)
-      → step.fact ≡ None → GivesUnless is_step_memory (written result after) (Ok plan)
+      → step.fact ≡ None → GivesUnless is_step_memory (unless_refused result after) (Ok plan)
       → OnOk result (RepresentsCentre stands node cluster me facts step.after)
-      → UnlessMemory (written result after) (RepresentsAfter stands node cluster me facts volatile (Ok step))
+      → UnlessMemory (unless_refused result after) (RepresentsAfter stands node cluster me facts volatile (Ok step))
   left-none plan step (Ok done) after is e ok = rw is ok
   left-none plan step (Err fault) after is e ok =
       elim (cases_Bool (is_step_memory fault)) [
@@ -107,20 +107,20 @@ module _ {S : Type 0} (stands : S → List Fact → Type 0) (node : Node S) (clu
 
   left-by : (room : Room) (step : NodeStep) (fact : Option Fact) (result : Result (Unit {0}) StepFault) (after : Step)
       → step.fact ≡ fact → Ends volatile step.after fact
-      → GivesUnless is_step_memory (written result after) (if_plan_added room facts (planned step) fact)
-      → OnOk result (RepresentsCentre stands node cluster me (with_new facts fact) (ended (heard_by fact) (kept_by volatile step.after fact)))
+      → GivesUnless is_step_memory (unless_refused result after) (if_plan_added room facts (planned step) fact)
+      → OnOk result (RepresentsCentre stands node cluster me (with_new facts fact) (closed_if_ended (heard_by fact) (kept_by volatile step.after fact)))
       → OnErr result (RepresentsCentre stands node cluster me facts (kept_by volatile step.after fact))
-      → UnlessMemory (written result after) (RepresentsAfter stands node cluster me facts volatile (if_fact_added room facts step fact))
+      → UnlessMemory (unless_refused result after) (RepresentsAfter stands node cluster me facts volatile (if_fact_added room facts step fact))
   left-by room step None result after is ends e ok err = left-none (planned step) step result after is e ok
   left-by room step (Some fact) result after is ends e ok err =
       left-if room (planned step) fact step result after (add_result room.spare (room.needed fact) facts fact) is ends e ok err
 
   pub plan-left : (room : Room) (plan : Step) (expected : Result NodeStep StepFault) (result : Result (Unit {0}) StepFault) (after : Step)
       → Ok plan ≡ plan_of expected → EndsIn volatile expected
-      → GivesUnless is_step_memory (written result after) (if_plan_added room facts plan plan.fact)
-      → OnOk result (RepresentsCentre stands node cluster me (with_new facts plan.fact) (ended (heard_by plan.fact) (kept volatile expected)))
-      → OnErr result (RepresentsCentre stands node cluster me facts (kept volatile expected))
-      → UnlessMemory (written result after) (RepresentsAfter stands node cluster me facts volatile (with_store room facts expected))
+      → GivesUnless is_step_memory (unless_refused result after) (if_plan_added room facts plan plan.fact)
+      → OnOk result (RepresentsCentre stands node cluster me (with_new facts plan.fact) (closed_if_ended (heard_by plan.fact) (volatile_kept volatile expected)))
+      → OnErr result (RepresentsCentre stands node cluster me facts (volatile_kept volatile expected))
+      → UnlessMemory (unless_refused result after) (RepresentsAfter stands node cluster me facts volatile (with_store room facts expected))
   plan-left room plan (Err fault) result after is ends e ok err = absurd (cc)
   plan-left room plan (Ok step) result after is ends e ok err =
       let same : plan ≡ planned step = cc in
@@ -128,7 +128,7 @@ module _ {S : Type 0} (stands : S → List Fact → Type 0) (node : Node S) (clu
 
   pub fault-left : (room : Room) (fault : StepFault) (expected : Result NodeStep StepFault)
       → GivesUnless {T = Step} is_step_memory (Err fault) (plan_of expected)
-      → UnlessMemory {T = Step} (Err fault) (RepresentsCentre stands node cluster me facts (kept volatile expected))
+      → UnlessMemory {T = Step} (Err fault) (RepresentsCentre stands node cluster me facts (volatile_kept volatile expected))
       → UnlessMemory {T = Step} (Err fault) (RepresentsAfter stands node cluster me facts volatile (with_store room facts expected))
   fault-left room fault (Err other) e h = h
   fault-left room fault (Ok step) e h =
@@ -141,8 +141,8 @@ module _ {S : Type 0} (stands : S → List Fact → Type 0) (node : Node S) (clu
 
 -- what it writes into a blank step is what it plans
 pub acts-plan : (step : NodeStep) (sends : List Envelope) (result : Result (Unit {0}) StepFault) → step.fact ≡ None → step.answer ≡ None
-    → GivesUnless is_step_memory (written result sends) (Ok step.sends)
-    → GivesUnless is_step_memory (written result (record { fact = None; sends = sends; heard = None; answer = None })) (plan_of (Ok step))
+    → GivesUnless is_step_memory (unless_refused result sends) (Ok step.sends)
+    → GivesUnless is_step_memory (unless_refused result (record { fact = None; sends = sends; heard = None; answer = None })) (plan_of (Ok step))
 acts-plan step sends (Ok done) fact answer e =
     let is : sends ≡ step.sends = cc in
     rw (fact, answer, is) refl
@@ -158,8 +158,8 @@ SendsAlone (Ok step) = (step.fact ≡ None) × (step.answer ≡ None)
 SendsAlone (Err fault) = ⊤
 
 pub sends-plan : (expected : Result NodeStep StepFault) (sends : List Envelope) (result : Result (Unit {0}) StepFault) → SendsAlone expected
-    → GivesUnless is_step_memory (written result sends) (sends_after [] expected)
-    → GivesUnless is_step_memory (written result (record { fact = None; sends = sends; heard = None; answer = None })) (plan_of expected)
+    → GivesUnless is_step_memory (unless_refused result sends) (sends_after [] expected)
+    → GivesUnless is_step_memory (unless_refused result (record { fact = None; sends = sends; heard = None; answer = None })) (plan_of expected)
 sends-plan (Ok step) sends result alone e = acts-plan step sends result alone.0 alone.1 e
 sends-plan (Err other) sends (Ok done) alone e = absurd (cc)
 sends-plan (Err other) sends (Err fault) alone e =
@@ -172,7 +172,7 @@ sends-plan (Err other) sends (Err fault) alone e =
     ]
 
 pub unless-any : {T U : Type 0} (result : Result (Unit {0}) StepFault) (x : T) (y : U) (P : Type 0)
-    → UnlessMemory (written result x) P → UnlessMemory (written result y) P
+    → UnlessMemory (unless_refused result x) P → UnlessMemory (unless_refused result y) P
 unless-any (Ok done) x y P h = h
 unless-any (Err fault) x y P h = h
 
@@ -182,7 +182,7 @@ on-true : (b : Bool) (P : Type 0) → P → OnTrue b P
 on-true true P h = h
 on-true false P h = tt
 
-pub memory-left : {T : Type 0} (result : Result (Unit {0}) StepFault) (x : T) (P : Type 0) → OnErr result P → OnMemory (written result x) P
+pub memory-left : {T : Type 0} (result : Result (Unit {0}) StepFault) (x : T) (P : Type 0) → OnErr result P → OnMemory (unless_refused result x) P
 memory-left (Ok done) x P h = tt
 memory-left (Err fault) x P h = on-true (is_step_memory fault) P h
 

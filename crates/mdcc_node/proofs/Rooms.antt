@@ -3,16 +3,16 @@ use Rattle.std.proofs.Common.{◌≡◌, ◌≤◌, ℕ, Bool, true, false, List
 use Rattle.mdcc_node.specs.Laws.{StepsUnbounded, StepsWithinCells, list_room}
 use Rattle.mdcc_node.specs.StepAnswers.{Room, if_added, step_by, if_fact_added, with_store}
 use Rattle.mdcc_option.specs.declared.cluster.Cluster.{Cluster}
-use Rattle.mdcc_messages.specs.Lengths.{cells_needed}
-use Rattle.mdcc_protocol.specs.News.{is_crowding}
-use Rattle.mdcc_rules.specs.Node.{cells_spare, checked, message_step, step_of, with_room}
-use Rattle.mdcc_rules.specs.Steps.{NodeStep}
-use Rattle.mdcc_protocol.specs.Volatile.{Volatile}
-use Rattle.mdcc_messages.specs.declared.facts.Fact.{Fact}
-use Rattle.mdcc_protocol.specs.declared.stores.StoreFault.{StoreFault}
-use Rattle.mdcc_rules.specs.declared.node.Input.{Input}
-use Rattle.mdcc_rules.specs.declared.node.StepFault.{StepFault}
-use Rattle.mdcc_rules.specs.Here.{here}
+use Rattle.mdcc_def_messages.specs.Lengths.{cells_needed}
+use Rattle.mdcc_def_protocol.specs.News.{is_crowding}
+use Rattle.mdcc_def_rules.specs.Node.{cells_spare, checked_for_room, message_step, step_of, with_room}
+use Rattle.mdcc_def_rules.specs.Steps.{NodeStep}
+use Rattle.mdcc_def_protocol.specs.Volatile.{Volatile}
+use Rattle.mdcc_def_messages.specs.declared.facts.Fact.{Fact}
+use Rattle.mdcc_def_protocol.specs.declared.stores.StoreFault.{StoreFault}
+use Rattle.mdcc_def_rules.specs.declared.node.Input.{Input}
+use Rattle.mdcc_def_rules.specs.declared.node.StepFault.{StepFault}
+use Rattle.mdcc_def_rules.specs.Here.{here}
 
 -- the store refuses a fact just as the protocol does
 abbrev IsAlike : Room → Cluster → List Fact → Type 0
@@ -24,7 +24,7 @@ fact-alike room cluster facts alike step None = refl
 fact-alike room cluster facts alike step (Some fact) = alike step fact
 
 store-alike : (room : Room) (cluster : Cluster) (facts : List Fact) → IsAlike room cluster facts
-    → (expected : Result NodeStep StepFault) → with_store room facts expected ≡ checked cluster facts expected
+    → (expected : Result NodeStep StepFault) → with_store room facts expected ≡ checked_for_room cluster facts expected
 store-alike room cluster facts alike (Err fault) = refl
 store-alike room cluster facts alike (Ok step) = fact-alike room cluster facts alike step step.fact
 

@@ -7,11 +7,11 @@ use Rattle.mdcc_base.specs.declared.faults.Memory.{Memory}
 use Rattle.mdcc_base.specs.declared.identifiers.Ballot.{Ballot}
 use Rattle.mdcc_base.specs.declared.identifiers.TxId.{TxId}
 use Rattle.mdcc_base.specs.declared.key.Key.{Key}
-use Rattle.mdcc_messages.specs.declared.facts.Fact.{Fact}
+use Rattle.mdcc_def_messages.specs.declared.facts.Fact.{Fact}
 use Rattle.mdcc_node.specs.StepParts.{is_new}
 use Rattle.mdcc_option.specs.declared.choices.Mark.{Mark}
-use Rattle.mdcc_protocol.specs.Acceptor.{new_marks}
-use Rattle.mdcc_protocol.specs.Facts.{is_finished, is_forgotten, shown_of, votes_of}
+use Rattle.mdcc_def_protocol.specs.Acceptor.{new_marks}
+use Rattle.mdcc_def_protocol.specs.Facts.{is_finished, is_forgotten, shown_of, votes_of}
 use Rattle.mdcc_struct.specs.Maps.{TxMap, value_of}
 use Rattle.mdcc_struct.specs.declared.options.Options.{Options}
 use Rattle.mdcc_struct.proofs.Order.{tx_eq-same}

@@ -3,13 +3,13 @@ use Rattle.std.proofs.Common.{◌≡◌, ℕ, Bool, true, false, List, Some, Non
 use Rattle.std.specs.Bool.{OnFalse, OnTrue}
 use Rattle.mdcc_node.specs.StepAnswers.{OnMemory, Room, UnlessMemory, is_step_memory, step_by, with_store}
 use Rattle.mdcc_option.specs.declared.cluster.Cluster.{Cluster}
-use Rattle.mdcc_rules.specs.Node.{is_own_message, message_step}
-use Rattle.mdcc_rules.specs.declared.node.Input.{Input}
-use Rattle.mdcc_protocol.specs.Volatile.{Volatile}
-use Rattle.mdcc_messages.specs.declared.facts.Fact.{Fact}
-use Rattle.mdcc_messages.specs.declared.messages.Envelope.{Envelope}
-use Rattle.mdcc_rules.specs.declared.node.StepFault.{StepFault}
-use Rattle.mdcc_rules.specs.Here.{here}
+use Rattle.mdcc_def_rules.specs.Node.{is_own_message, message_step}
+use Rattle.mdcc_def_rules.specs.declared.node.Input.{Input}
+use Rattle.mdcc_def_protocol.specs.Volatile.{Volatile}
+use Rattle.mdcc_def_messages.specs.declared.facts.Fact.{Fact}
+use Rattle.mdcc_def_messages.specs.declared.messages.Envelope.{Envelope}
+use Rattle.mdcc_def_rules.specs.declared.node.StepFault.{StepFault}
+use Rattle.mdcc_def_rules.specs.Here.{here}
 
 -- ---- what holds whatever comes
 

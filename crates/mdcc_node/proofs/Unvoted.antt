@@ -12,10 +12,10 @@ use Rattle.mdcc_option.specs.declared.choices.Choice.{Choice}
 use Rattle.mdcc_option.specs.declared.choices.Mark.{Mark}
 use Rattle.mdcc_option.specs.declared.choices.Outcome.{Outcome}
 use Rattle.mdcc_option.specs.declared.cluster.Cluster.{Cluster}
-use Rattle.mdcc_protocol.specs.Acceptor.{answer_after, answer_by_vote, on_propose}
-use Rattle.mdcc_protocol.specs.Facts.{current_of, is_finished, last_vote, later_vote, mark_voted, marks_voted, outcome_kept, vote_of, votes_of}
-use Rattle.mdcc_protocol.specs.declared.acceptor.ProposeAnswer.{ProposeAnswer}
-use Rattle.mdcc_messages.specs.declared.facts.Fact.{Fact}
+use Rattle.mdcc_def_protocol.specs.Acceptor.{answer_after, answer_by_vote, on_propose}
+use Rattle.mdcc_def_protocol.specs.Facts.{current_of, is_finished, last_vote, later_vote, mark_voted, marks_voted, outcome_kept, vote_of, votes_of}
+use Rattle.mdcc_def_protocol.specs.declared.acceptor.ProposeAnswer.{ProposeAnswer}
+use Rattle.mdcc_def_messages.specs.declared.facts.Fact.{Fact}
 use Rattle.mdcc_struct.specs.Maps.{value_of}
 use Rattle.mdcc_struct.specs.declared.options.Options.{Options}
 use Rattle.mdcc_struct.proofs.Values.{value_of-union}

@@ -2,12 +2,12 @@
 use Rattle.std.specs.Prelude.{◌≡◌, ◌≤◌, ◌-◌, ◌^◌, List, ℕ}
 use Rattle.mdcc_node.specs.StepAnswers.{Room, step_by}
 use Rattle.mdcc_option.specs.declared.cluster.Cluster.{Cluster}
-use Rattle.mdcc_messages.specs.Lengths.{cells_needed}
-use Rattle.mdcc_rules.specs.Node.{cells_spare, step_of}
-use Rattle.mdcc_protocol.specs.Volatile.{Volatile}
-use Rattle.mdcc_messages.specs.declared.facts.Fact.{Fact}
-use Rattle.mdcc_rules.specs.declared.node.Input.{Input}
-use Rattle.mdcc_rules.specs.Here.{here}
+use Rattle.mdcc_def_messages.specs.Lengths.{cells_needed}
+use Rattle.mdcc_def_rules.specs.Node.{cells_spare, step_of}
+use Rattle.mdcc_def_protocol.specs.Volatile.{Volatile}
+use Rattle.mdcc_def_messages.specs.declared.facts.Fact.{Fact}
+use Rattle.mdcc_def_rules.specs.declared.node.Input.{Input}
+use Rattle.mdcc_def_rules.specs.Here.{here}
 
 -- the room of a store that takes any number of facts
 abbrev pub list_room : Room

@@ -2,15 +2,15 @@
 use Rattle.std.specs.Prelude.{Bool, Err, List, None, Ok, Option, Result, Some, ℕ, ◌+◌, ◌≡◌}
 use Rattle.mdcc_base.specs.declared.identifiers.TxId.{TxId}
 use Rattle.mdcc_base.specs.Unless.{GivesUnless}
-use Rattle.mdcc_messages.specs.declared.facts.Fact.{Fact}
+use Rattle.mdcc_def_messages.specs.declared.facts.Fact.{Fact}
 use Rattle.mdcc_node.specs.Represents.{RepresentsAfter, RepresentsCentre}
 use Rattle.mdcc_node.specs.StepAnswers.{OnMemory, UnlessMemory, step_result, is_step_memory, room_of, with_store}
 use Rattle.mdcc_node.specs.declared.node.Node.{Node}
 use Rattle.mdcc_option.specs.declared.cluster.Cluster.{Cluster}
-use Rattle.mdcc_protocol.specs.Volatile.{Volatile, closed}
-use Rattle.mdcc_rules.specs.Steps.{NodeStep}
-use Rattle.mdcc_rules.specs.declared.node.Step.{Step}
-use Rattle.mdcc_rules.specs.declared.node.StepFault.{StepFault}
+use Rattle.mdcc_def_protocol.specs.Volatile.{Volatile, closed}
+use Rattle.mdcc_def_rules.specs.Steps.{NodeStep}
+use Rattle.mdcc_def_rules.specs.declared.node.Step.{Step}
+use Rattle.mdcc_def_rules.specs.declared.node.StepFault.{StepFault}
 
 -- what is expected of a centre of a cluster, by its facts and by what it keeps beside them
 abbrev pub Rule : Type 0
@@ -30,9 +30,9 @@ Does stands spare needed before result after rule =
     Follows stands before result after (λ cluster me facts volatile. with_store (room_of spare needed before.store) facts (rule cluster me facts volatile))
 
 -- a transaction that has ended is closed
-abbrev pub ended : Option (TxId × Bool) → Volatile → Volatile
-ended None volatile = volatile
-ended (Some (tx, is_commit)) volatile = closed volatile tx
+abbrev pub closed_if_ended : Option (TxId × Bool) → Volatile → Volatile
+closed_if_ended None volatile = volatile
+closed_if_ended (Some (tx, is_commit)) volatile = closed volatile tx
 
 -- ---- cells
 

@@ -5,13 +5,13 @@ use Rattle.mdcc_manager.specs.Represents.{RepresentsManaging}
 use Rattle.mdcc_node.specs.StepAnswers.{facts_left, volatile_left}
 use Rattle.mdcc_node.specs.declared.node.Node.{Node}
 use Rattle.mdcc_option.specs.declared.cluster.Cluster.{Cluster}
-use Rattle.mdcc_protocol.specs.Belongs.{is_centre}
-use Rattle.mdcc_protocol.specs.Facts.{epoch_of}
-use Rattle.mdcc_rules.specs.Steps.{NodeStep}
-use Rattle.mdcc_protocol.specs.Volatile.{Volatile}
+use Rattle.mdcc_def_protocol.specs.Belongs.{is_centre}
+use Rattle.mdcc_def_protocol.specs.Facts.{epoch_of}
+use Rattle.mdcc_def_rules.specs.Steps.{NodeStep}
+use Rattle.mdcc_def_protocol.specs.Volatile.{Volatile}
 use Rattle.mdcc_recover.specs.Represents.{RepresentsRecovering}
-use Rattle.mdcc_messages.specs.declared.facts.Fact.{Fact}
-use Rattle.mdcc_rules.specs.declared.node.StepFault.{StepFault}
+use Rattle.mdcc_def_messages.specs.declared.facts.Fact.{Fact}
+use Rattle.mdcc_def_rules.specs.declared.node.StepFault.{StepFault}
 
 pub record RepresentsCentre {S : Type 0} (stands : S → List Fact → Type 0) (node : Node S) (cluster : Cluster) (me : ℕ) (facts : List Fact) (volatile : Volatile) : Type 0 where
   pub of : node.cluster ≡ cluster

@@ -3,17 +3,17 @@ use Rattle.std.specs.Bool.{OnFalse, OnTrue}
 use Rattle.std.specs.Prelude.{Bool, Err, List, None, Ok, Option, Result, Some, false, if◌then◌else◌, true, ⊤, ℕ, ◌∷◌, ◌≤◌}
 use Rattle.mdcc_facts.specs.Adding.{add_result}
 use Rattle.mdcc_option.specs.declared.cluster.Cluster.{Cluster}
-use Rattle.mdcc_rules.specs.Node.{is_own_message, message_step, step_of}
-use Rattle.mdcc_rules.specs.Steps.{NodeStep, heard_by, store_step_fault, step_given, with_new}
-use Rattle.mdcc_protocol.specs.Volatile.{Volatile}
-use Rattle.mdcc_messages.specs.declared.facts.Fact.{Fact}
-use Rattle.mdcc_protocol.specs.declared.stores.StoreFault.{StoreFault}
-use Rattle.mdcc_rules.specs.declared.node.Input.{Input}
-use Rattle.mdcc_rules.specs.declared.node.Step.{Step}
-use Rattle.mdcc_rules.specs.declared.node.StepFault.{StepFault}
-use Rattle.mdcc_steps.specs.NodeInvariant.{accept_length_in}
-use Rattle.mdcc_steps.specs.Inputs.{IsWellFormedInput}
-use Rattle.mdcc_rules.specs.Here.{here}
+use Rattle.mdcc_def_rules.specs.Node.{is_own_message, message_step, step_of}
+use Rattle.mdcc_def_rules.specs.Steps.{NodeStep, heard_by, store_step_fault, step_given, with_new}
+use Rattle.mdcc_def_protocol.specs.Volatile.{Volatile}
+use Rattle.mdcc_def_messages.specs.declared.facts.Fact.{Fact}
+use Rattle.mdcc_def_protocol.specs.declared.stores.StoreFault.{StoreFault}
+use Rattle.mdcc_def_rules.specs.declared.node.Input.{Input}
+use Rattle.mdcc_def_rules.specs.declared.node.Step.{Step}
+use Rattle.mdcc_def_rules.specs.declared.node.StepFault.{StepFault}
+use Rattle.mdcc_theorem_node_steps.specs.NodeInvariant.{accept_length_in}
+use Rattle.mdcc_theorem_node_steps.specs.Inputs.{IsWellFormedInput}
+use Rattle.mdcc_def_rules.specs.Here.{here}
 
 -- ---- the store's room
 
@@ -94,5 +94,5 @@ OnMemory (Err fault) P = OnTrue (is_step_memory fault) P
 -- ---- inputs
 
 -- an input is well-formed, and an Accept has at most as many bytes as a frame of a log holds
-abbrev pub IsGiven : Input → Type 0
-IsGiven input = IsWellFormedInput input × (accept_length_in input ≤ 2097152)
+abbrev pub IsInputGiven : Input → Type 0
+IsInputGiven input = IsWellFormedInput input × (accept_length_in input ≤ 2097152)

@@ -6,13 +6,13 @@ use Rattle.mdcc_base.specs.declared.key.Key.{Key}
 use Rattle.mdcc_option.specs.declared.choices.Choice.{Choice}
 use Rattle.mdcc_option.specs.declared.choices.Mark.{Mark}
 use Rattle.mdcc_option.specs.declared.faults.BeginFault.{BeginFault}
-use Rattle.mdcc_protocol.specs.Facts.{is_finished, is_settled, unresolved_of}
-use Rattle.mdcc_protocol.specs.Marks.{is_accept}
-use Rattle.mdcc_messages.specs.declared.facts.Fact.{Fact}
-use Rattle.mdcc_messages.specs.declared.messages.Envelope.{Envelope}
-use Rattle.mdcc_rules.specs.declared.node.Answer.{Answer}
-use Rattle.mdcc_rules.specs.declared.node.Step.{Step}
-use Rattle.mdcc_rules.specs.declared.node.StepFault.{StepFault}
+use Rattle.mdcc_def_protocol.specs.Facts.{is_finished, is_settled, unresolved_of}
+use Rattle.mdcc_def_protocol.specs.Marks.{is_accept}
+use Rattle.mdcc_def_messages.specs.declared.facts.Fact.{Fact}
+use Rattle.mdcc_def_messages.specs.declared.messages.Envelope.{Envelope}
+use Rattle.mdcc_def_rules.specs.declared.node.Answer.{Answer}
+use Rattle.mdcc_def_rules.specs.declared.node.Step.{Step}
+use Rattle.mdcc_def_rules.specs.declared.node.StepFault.{StepFault}
 use Rattle.mdcc_struct.specs.Maps.{value_of}
 use Rattle.mdcc_struct.specs.declared.options.Options.{Options}
 

@@ -5,24 +5,24 @@ use Rattle.mdcc_base.specs.declared.identifiers.Ballot.{Ballot}
 use Rattle.mdcc_base.specs.declared.identifiers.TxId.{TxId}
 use Rattle.mdcc_base.specs.declared.key.Key.{Key}
 use Rattle.mdcc_facts.specs.Adding.{is_heard_before, is_promised_before, is_voted_before}
-use Rattle.mdcc_messages.specs.Lengths.{fact_length}
-use Rattle.mdcc_messages.specs.WellFormed.{IsWellFormedFact}
-use Rattle.mdcc_messages.specs.declared.facts.Fact.{Fact}
-use Rattle.mdcc_messages.specs.declared.messages.Envelope.{Envelope}
-use Rattle.mdcc_messages.specs.declared.messages.Message.{Message}
+use Rattle.mdcc_def_messages.specs.Lengths.{fact_length}
+use Rattle.mdcc_def_messages.specs.WellFormed.{IsWellFormedFact}
+use Rattle.mdcc_def_messages.specs.declared.facts.Fact.{Fact}
+use Rattle.mdcc_def_messages.specs.declared.messages.Envelope.{Envelope}
+use Rattle.mdcc_def_messages.specs.declared.messages.Message.{Message}
 use Rattle.mdcc_node.specs.MethodEffects.{Rule}
 use Rattle.mdcc_node.specs.Represents.{RepresentsCentre}
 use Rattle.mdcc_node.specs.StepAnswers.{UnlessMemory, is_step_memory}
 use Rattle.mdcc_node.specs.declared.node.Node.{Node}
 use Rattle.mdcc_option.specs.declared.choices.Mark.{Mark}
 use Rattle.mdcc_option.specs.declared.cluster.Cluster.{Cluster}
-use Rattle.mdcc_protocol.specs.Facts.{epoch_of, is_floor, is_settled}
-use Rattle.mdcc_protocol.specs.Volatile.{Volatile}
-use Rattle.mdcc_protocol.specs.declared.leader.LeadFault.{LeadFault}
-use Rattle.mdcc_rules.specs.AcceptorRules.{votes_sent}
-use Rattle.mdcc_rules.specs.Steps.{NodeStep}
-use Rattle.mdcc_rules.specs.declared.node.Step.{Step}
-use Rattle.mdcc_rules.specs.declared.node.StepFault.{StepFault}
+use Rattle.mdcc_def_protocol.specs.Facts.{epoch_of, is_floor, is_settled}
+use Rattle.mdcc_def_protocol.specs.Volatile.{Volatile}
+use Rattle.mdcc_def_protocol.specs.declared.leader.LeadFault.{LeadFault}
+use Rattle.mdcc_def_rules.specs.AcceptorRules.{votes_sent}
+use Rattle.mdcc_def_rules.specs.Steps.{NodeStep}
+use Rattle.mdcc_def_rules.specs.declared.node.Step.{Step}
+use Rattle.mdcc_def_rules.specs.declared.node.StepFault.{StepFault}
 
 -- ---- what is written
 
@@ -39,9 +39,9 @@ plan_of (Ok step) = Ok (planned step)
 plan_of (Err fault) = Err fault
 
 -- what was written, where there is no refusal
-abbrev pub written : {T : Type 0} → Result (Unit {0}) StepFault → T → Result T StepFault
-written (Ok done) x = Ok x
-written (Err fault) x = Err fault
+abbrev pub unless_refused : {T : Type 0} → Result (Unit {0}) StepFault → T → Result T StepFault
+unless_refused (Ok done) x = Ok x
+unless_refused (Err fault) x = Err fault
 
 -- messages behind others
 abbrev pub sends_after : List Envelope → Result NodeStep StepFault → Result (List Envelope) StepFault
@@ -89,9 +89,9 @@ abbrev pub kept_by : Volatile → Volatile → Option Fact → Volatile
 kept_by volatile after None = after
 kept_by volatile after (Some fact) = volatile
 
-abbrev pub kept : Volatile → Result NodeStep StepFault → Volatile
-kept volatile (Ok step) = kept_by volatile step.after step.fact
-kept volatile (Err fault) = volatile
+abbrev pub volatile_kept : Volatile → Result NodeStep StepFault → Volatile
+volatile_kept volatile (Ok step) = kept_by volatile step.after step.fact
+volatile_kept volatile (Err fault) = volatile
 
 -- a fact says nothing a second time, and sets no floor
 pub record IsNews (facts : List Fact) (fact : Fact) : Type 0 where
@@ -120,7 +120,7 @@ pub record Plans {S : Type 0} (stands : S → List Fact → Type 0) (before : No
   pub answer : (cluster : Cluster) (me : ℕ) (facts : List Fact) (volatile : Volatile) → RepresentsCentre stands before cluster me facts volatile
       → GivesUnless is_step_memory result (plan_of (rule cluster me facts volatile))
   pub left : (cluster : Cluster) (me : ℕ) (facts : List Fact) (volatile : Volatile) → RepresentsCentre stands before cluster me facts volatile
-      → UnlessMemory result (RepresentsCentre stands after cluster me facts (kept volatile (rule cluster me facts volatile)))
+      → UnlessMemory result (RepresentsCentre stands after cluster me facts (volatile_kept volatile (rule cluster me facts volatile)))
   pub store : after.store ≡ before.store
 
 -- the same of a rule that adds no fact and answers no client: it sends messages after those before
@@ -128,5 +128,5 @@ pub record Acts {S : Type 0} (stands : S → List Fact → Type 0) (before : Nod
   pub answer : (cluster : Cluster) (me : ℕ) (facts : List Fact) (volatile : Volatile) → RepresentsCentre stands before cluster me facts volatile
       → GivesUnless is_step_memory result (sends_after sends (rule cluster me facts volatile))
   pub left : (cluster : Cluster) (me : ℕ) (facts : List Fact) (volatile : Volatile) → RepresentsCentre stands before cluster me facts volatile
-      → UnlessMemory result (RepresentsCentre stands after cluster me facts (kept volatile (rule cluster me facts volatile)))
+      → UnlessMemory result (RepresentsCentre stands after cluster me facts (volatile_kept volatile (rule cluster me facts volatile)))
   pub store : after.store ≡ before.store

@@ -1,28 +1,28 @@
 //! The node's rules around its acceptor: proposals, promises and votes on structures.
 ghost use Rattle.std.specs.Prelude.{◌≡◌, ◌++◌, [], IfOk, List, OnOk, if◌then◌else◌};
 ghost use Rattle.mdcc_base.specs.Ballot.{is_fast};
-ghost use Rattle.mdcc_messages.specs.declared.facts.Fact.{Fact as AFact};
-ghost use Rattle.mdcc_messages.specs.declared.messages.Message.{Message as AMessage};
+ghost use Rattle.mdcc_def_messages.specs.declared.facts.Fact.{Fact as AFact};
+ghost use Rattle.mdcc_def_messages.specs.declared.messages.Message.{Message as AMessage};
 ghost use Rattle.mdcc_node.specs.StepPlans.{MayFollow, blank, planned};
-ghost use Rattle.mdcc_protocol.specs.Acceptor.{new_marks};
-ghost use Rattle.mdcc_protocol.specs.Facts.{shown_of};
-ghost use Rattle.mdcc_protocol.specs.Volatile.{Volatile as AVolatile};
-ghost use Rattle.mdcc_protocol.specs.declared.acceptor.ProposeAnswer.{ProposeAnswer as AProposeAnswer};
-ghost use Rattle.mdcc_rules.specs.AcceptorRules.{accept_step, accepted_step, prepare_step, prepared_step, promise_message, propose_step, proposed_step, voted_marks_step};
-ghost use Rattle.mdcc_rules.specs.Messages.{to_one};
-ghost use Rattle.mdcc_rules.specs.Here.{here};
+ghost use Rattle.mdcc_def_protocol.specs.Acceptor.{new_marks};
+ghost use Rattle.mdcc_def_protocol.specs.Facts.{shown_of};
+ghost use Rattle.mdcc_def_protocol.specs.Volatile.{Volatile as AVolatile};
+ghost use Rattle.mdcc_def_protocol.specs.declared.acceptor.ProposeAnswer.{ProposeAnswer as AProposeAnswer};
+ghost use Rattle.mdcc_def_rules.specs.AcceptorRules.{accept_step, accepted_step, prepare_step, prepared_step, promise_message, propose_step, proposed_step, voted_marks_step};
+ghost use Rattle.mdcc_def_rules.specs.Messages.{to_one};
+ghost use Rattle.mdcc_def_rules.specs.Here.{here};
 
 use crate::node::Node;
 use crate::steps::{voted_message, write_vote};
 use crate::votes::{send_votes, unvoted_marks};
 use mdcc_acceptor::{answer_proposal, on_accept, on_prepare};
 use mdcc_base::{Ballot, HeapList, Key, Memory, Plain, TxId};
+use mdcc_def_messages::{Envelope, Fact, Message};
+use mdcc_def_protocol::{AcceptAnswer, PrepareAnswer, ProposeAnswer};
+use mdcc_def_rules::Step;
 use mdcc_facts::FactStore;
-use mdcc_messages::{Envelope, Fact, Message};
+use mdcc_node_sends::send;
 use mdcc_option::{Cause, Choice, Mark, Outcome};
-use mdcc_protocol::{AcceptAnswer, PrepareAnswer, ProposeAnswer};
-use mdcc_rules::Step;
-use mdcc_sends::send;
 use mdcc_struct::Options;
 
 impl<S: FactStore + Drop> Node<S> {

@@ -1,19 +1,19 @@
 //! The boot of a node from the payloads of its log.
 ghost use Rattle.std.specs.Prelude.{◌≡◌, [], IfOk, map, true};
-ghost use Rattle.mdcc_admission.specs.Loading.{AreShort, Cells, Holds, boot_by, fact_read};
+ghost use Rattle.mdcc_node_boot.specs.Loading.{AreWithinFrames, Cells, HoldsFacts, boot_by, fact_read};
 ghost use Rattle.mdcc_node.specs.BootEffects.{Boots, IsBoot};
-ghost use Rattle.mdcc_protocol.specs.Belongs.{is_centre};
+ghost use Rattle.mdcc_def_protocol.specs.Belongs.{is_centre};
 
 use crate::node::Node;
-use mdcc_admission::boot_store;
 use mdcc_base::{Centre, HeapList};
+use mdcc_def_messages::Fact;
+use mdcc_def_rules::BootFault;
 use mdcc_facts::FactStore;
 use mdcc_leader::Leader;
 use mdcc_manager::Manager;
-use mdcc_messages::Fact;
+use mdcc_node_boot::boot_store;
 use mdcc_option::Cluster;
 use mdcc_recover::Recover;
-use mdcc_rules::BootFault;
 use std::alloc::Global;
 
 impl<S: FactStore + Drop> Node<S> {
@@ -22,7 +22,7 @@ impl<S: FactStore + Drop> Node<S> {
     /// that spells no fact or one that may not stand after those before it; `Room` comes where an
     /// allowed fact needs more cells than are left, with the cells in use and its own, up to
     /// 2^64 - 1, and all cells; after the payloads `Epochs` comes where the last epoch is 2^32 - 1, and
-    /// last `Room` for the new boot. `mdcc_admission::loading::are_short` tests whether the payloads
+    /// last `Room` for the new boot. `mdcc_node_boot::loading::are_short` tests whether the payloads
     /// are short. The store is given up with a refusal. A boot without memory may be tried again.
     pub fn boot(
         alloc: Global,
@@ -33,8 +33,8 @@ impl<S: FactStore + Drop> Node<S> {
     ) -> Result<(Node<S>, Fact), BootFault>
         requires among { is_centre cluster centre ≡ true }
         requires empty { S.stands store [] }
-        requires short { AreShort payloads.now }
-        ensures boots { (all : Cells) → Holds S.stands S.room S.cells_for all store []
+        requires short { AreWithinFrames payloads.now }
+        ensures boots { (all : Cells) → HoldsFacts S.stands S.room S.cells_for all store []
             → Boots S.stands S.room S.cells_for all result cluster centre (boot_by all cluster (map fact_read payloads.now)) }
         ensures fact { IfOk result (λ r. IsBoot r.1) }
     {

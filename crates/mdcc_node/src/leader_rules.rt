@@ -1,29 +1,29 @@
 //! The node's rules around its leader: claims, promises and refusals, and the open transactions at a tick.
 ghost use Rattle.std.specs.Prelude.{◌≡◌, ◌≤◌, List, None, Ok, ℕ};
-ghost use Rattle.mdcc_messages.specs.declared.facts.Fact.{Fact as AFact};
-ghost use Rattle.mdcc_node.specs.StepPlans.{Acts, left_out, written};
+ghost use Rattle.mdcc_def_messages.specs.declared.facts.Fact.{Fact as AFact};
+ghost use Rattle.mdcc_node.specs.StepPlans.{Acts, left_out, unless_refused};
 ghost use Rattle.mdcc_node.specs.Represents.{RepresentsCentre};
 ghost use Rattle.mdcc_option.specs.declared.cluster.Cluster.{Cluster as ACluster};
-ghost use Rattle.mdcc_protocol.specs.Volatile.{Volatile as AVolatile};
-ghost use Rattle.mdcc_rules.specs.LeaderRules.{lead_step, lead_step_after, led_of, promise_step, refused_step, step_of_led};
-ghost use Rattle.mdcc_rules.specs.Steps.{step_of_part};
-ghost use Rattle.mdcc_rules.specs.TickRules.{claim_led, manager_act, manager_ticked};
-ghost use Rattle.mdcc_rules.specs.Here.{here};
+ghost use Rattle.mdcc_def_protocol.specs.Volatile.{Volatile as AVolatile};
+ghost use Rattle.mdcc_def_rules.specs.LeaderRules.{lead_step, lead_step_after, led_of, promise_step, refused_step, step_of_led};
+ghost use Rattle.mdcc_def_rules.specs.Steps.{step_of_part};
+ghost use Rattle.mdcc_def_rules.specs.TickRules.{claim_led, manager_act, manager_ticked};
+ghost use Rattle.mdcc_def_rules.specs.Here.{here};
 
 use crate::node::Node;
 use crate::steps::claim_of;
 use mdcc_base::{Ballot, Centre, HeapList, Key};
+use mdcc_def_messages::{Envelope, Message};
+use mdcc_def_protocol::{LeadFault, ManagerAct, Promise};
+use mdcc_def_rules::StepFault;
 use mdcc_facts::FactStore;
-use mdcc_messages::{Envelope, Message};
+use mdcc_node_sends::{propose, send, send_lead, send_promised};
 use mdcc_option::{Choice, Claim};
-use mdcc_protocol::{LeadFault, ManagerAct, Promise};
-use mdcc_rules::StepFault;
-use mdcc_sends::{propose, send, send_lead, send_promised};
 
 impl<S: FactStore + Drop> Node<S> {
     // A claim is led here.
     fn lead_claim(&mut self, claim: &Claim, sends: &mut HeapList<Envelope>) -> Result<(), StepFault>
-        ensures { Acts S.stands self.old sends.old (written result sends.new) self.new (λ cluster me facts volatile. step_of_led (led_of (here cluster me facts) volatile claim.now)) }
+        ensures { Acts S.stands self.old sends.old (unless_refused result sends.new) self.new (λ cluster me facts volatile. step_of_led (led_of (here cluster me facts) volatile claim.now)) }
     {
         let answer = self.leader.lead(&self.store, &self.cluster, claim)?;
         let (quorums, centre) = (&self.cluster.quorums, self.centre.number());
@@ -38,7 +38,7 @@ impl<S: FactStore + Drop> Node<S> {
         choice: &Choice,
         sends: &mut HeapList<Envelope>,
     ) -> Result<(), StepFault>
-        ensures { Acts S.stands self.old sends.old (written result sends.new) self.new (λ cluster me facts volatile. lead_step (here cluster me facts) volatile from choice.now) }
+        ensures { Acts S.stands self.old sends.old (unless_refused result sends.new) self.new (λ cluster me facts volatile. lead_step (here cluster me facts) volatile from choice.now) }
     {
         match self.store.heard(choice.tx) {
             Some(outcome) => {
@@ -60,7 +60,7 @@ impl<S: FactStore + Drop> Node<S> {
         choice: &Choice,
         sends: &mut HeapList<Envelope>,
     ) -> Result<(), StepFault>
-        ensures { Acts S.stands self.old sends.old (written result sends.new) self.new (λ cluster me facts volatile. lead_step_after (here cluster me facts) volatile from choice.now None) }
+        ensures { Acts S.stands self.old sends.old (unless_refused result sends.new) self.new (λ cluster me facts volatile. lead_step_after (here cluster me facts) volatile from choice.now None) }
     {
         if self.store.finished(choice.tx) {
             self.send_finished(from, choice.tx, sends)?;
@@ -77,7 +77,7 @@ impl<S: FactStore + Drop> Node<S> {
         sends: &mut HeapList<Envelope>,
     ) -> Result<(), StepFault>
         requires { from ≤ self.old.cluster.quorums.centres }
-        ensures { Acts S.stands self.old sends.old (written result sends.new) self.new (λ cluster me facts volatile. promise_step (here cluster me facts) volatile from promise.now) }
+        ensures { Acts S.stands self.old sends.old (unless_refused result sends.new) self.new (λ cluster me facts volatile. promise_step (here cluster me facts) volatile from promise.now) }
     {
         let (store, cluster) = (&self.store, &self.cluster);
         let answer = self.leader.on_promise(store, cluster, from, promise)?;
@@ -103,7 +103,7 @@ impl<S: FactStore + Drop> Node<S> {
         claim: &Claim,
         sends: &mut HeapList<Envelope>,
     ) -> Result<(), StepFault>
-        ensures { Acts S.stands self.old sends.old (written result sends.new) self.new (λ cluster me facts volatile. Ok (step_of_part (claim_led (here cluster me facts) volatile claim.now))) }
+        ensures { Acts S.stands self.old sends.old (unless_refused result sends.new) self.new (λ cluster me facts volatile. Ok (step_of_part (claim_led (here cluster me facts) volatile claim.now))) }
     {
         match self.leader.lead(&self.store, &self.cluster, claim) {
             Ok(answer) => {
@@ -117,7 +117,7 @@ impl<S: FactStore + Drop> Node<S> {
 
     // What the manager wants done at a tick.
     fn act(&mut self, act: &ManagerAct, sends: &mut HeapList<Envelope>) -> Result<(), StepFault>
-        ensures { Acts S.stands self.old sends.old (written result sends.new) self.new (λ cluster me facts volatile. Ok (step_of_part (manager_act (here cluster me facts) volatile act.now))) }
+        ensures { Acts S.stands self.old sends.old (unless_refused result sends.new) self.new (λ cluster me facts volatile. Ok (step_of_part (manager_act (here cluster me facts) volatile act.now))) }
     {
         match act {
             ManagerAct::Propose(choice) => {
@@ -137,7 +137,7 @@ impl<S: FactStore + Drop> Node<S> {
 
     // Time has passed for the open transactions. Each act sees the leader that those before it left.
     pub(crate) fn tick_opened(&mut self, sends: &mut HeapList<Envelope>) -> Result<(), StepFault>
-        ensures { Acts S.stands self.old sends.old (written result sends.new) self.new (λ cluster me facts volatile. Ok (step_of_part (manager_ticked (here cluster me facts) volatile))) }
+        ensures { Acts S.stands self.old sends.old (unless_refused result sends.new) self.new (λ cluster me facts volatile. Ok (step_of_part (manager_ticked (here cluster me facts) volatile))) }
     {
         let acts = self.manager.tick()?;
         for act in &acts {

@@ -13,6 +13,6 @@ mod steps;
 mod sync_rules;
 mod votes;
 
-pub use mdcc_rules::{Answer, BootFault, Input, Step, StepFault};
+pub use mdcc_def_rules::{Answer, BootFault, Input, Step, StepFault};
 pub use node::Node;
 pub use steps::blank;

@@ -1,32 +1,32 @@
 //! The node's rules around its manager: begins, votes, and acceptors that give no vote.
 ghost use Rattle.std.specs.Prelude.{◌≡◌, ◌++◌, List, None, Ok, OnOk, false, is_some, true, ℕ};
 ghost use Rattle.mdcc_base.specs.Unless.{GivesUnless};
-ghost use Rattle.mdcc_messages.specs.WellFormedParts.{IsWellFormedCause};
-ghost use Rattle.mdcc_messages.specs.declared.facts.Fact.{Fact as AFact};
+ghost use Rattle.mdcc_def_messages.specs.WellFormedParts.{IsWellFormedCause};
+ghost use Rattle.mdcc_def_messages.specs.declared.facts.Fact.{Fact as AFact};
 ghost use Rattle.mdcc_node.specs.MethodEffects.{Follows};
-ghost use Rattle.mdcc_node.specs.StepPlans.{Acts, MayFollow, Plans, blank, planned, written};
+ghost use Rattle.mdcc_node.specs.StepPlans.{Acts, MayFollow, Plans, blank, planned, unless_refused};
 ghost use Rattle.mdcc_node.specs.StepAnswers.{is_step_memory};
 ghost use Rattle.mdcc_node.specs.StepParts.{refused_given, replied};
 ghost use Rattle.mdcc_node.specs.Represents.{RepresentsCentre};
 ghost use Rattle.mdcc_option.specs.Transaction.{choices_of};
 ghost use Rattle.mdcc_option.specs.declared.cluster.Cluster.{Cluster as ACluster};
-ghost use Rattle.mdcc_protocol.specs.Facts.{is_settled};
-ghost use Rattle.mdcc_protocol.specs.Manager.{key_refused as key_refused_of, would_decide};
-ghost use Rattle.mdcc_protocol.specs.Volatile.{Volatile as AVolatile};
-ghost use Rattle.mdcc_rules.specs.ManagerRules.{act_sent, begin_step, decided_step, escalate_step, opened_step, proposals_sent, voted_step};
-ghost use Rattle.mdcc_rules.specs.SyncRules.{outcome_step};
-ghost use Rattle.mdcc_rules.specs.declared.node.Answer.{Answer as AnAnswer};
-ghost use Rattle.mdcc_rules.specs.Here.{here};
+ghost use Rattle.mdcc_def_protocol.specs.Facts.{is_settled};
+ghost use Rattle.mdcc_def_protocol.specs.Manager.{key_refused as key_refused_of, would_decide};
+ghost use Rattle.mdcc_def_protocol.specs.Volatile.{Volatile as AVolatile};
+ghost use Rattle.mdcc_def_rules.specs.ManagerRules.{act_sent, begin_step, decided_step, escalate_step, opened_step, proposals_sent, voted_step};
+ghost use Rattle.mdcc_def_rules.specs.SyncRules.{outcome_step};
+ghost use Rattle.mdcc_def_rules.specs.declared.node.Answer.{Answer as AnAnswer};
+ghost use Rattle.mdcc_def_rules.specs.Here.{here};
 
 use crate::node::Node;
 use mdcc_base::{Centre, HeapList, Key, Memory, Plain, TxId};
+use mdcc_def_messages::{Envelope, Fact, Message};
+use mdcc_def_protocol::{ManagerAct, Vote};
+use mdcc_def_rules::{Answer, Step, StepFault};
 use mdcc_facts::FactStore;
 use mdcc_manager::key_refused;
-use mdcc_messages::{Envelope, Fact, Message};
+use mdcc_node_sends::{propose_each, send, tell_others};
 use mdcc_option::{BeginFault, Cause, Outcome, Transaction};
-use mdcc_protocol::{ManagerAct, Vote};
-use mdcc_rules::{Answer, Step, StepFault};
-use mdcc_sends::{propose_each, send, tell_others};
 use mdcc_visible::on_outcome;
 
 impl<S: FactStore + Drop> Node<S> {
@@ -35,7 +35,7 @@ impl<S: FactStore + Drop> Node<S> {
     // The transaction was begun.
     fn begun(&self, tx: TxId, transaction: &Transaction, step: &mut Step) -> Result<(), StepFault>
         requires { step.old ≡ blank }
-        ensures answer { GivesUnless is_step_memory (written result step.new)
+        ensures answer { GivesUnless is_step_memory (unless_refused result step.new)
             (Ok (replied (proposals_sent self.now.cluster.quorums self.now.centre (choices_of tx transaction.now)) (AnAnswer.Begun tx))) }
         ensures fact { step.new.fact ≡ step.old.fact }
     {
@@ -61,7 +61,7 @@ impl<S: FactStore + Drop> Node<S> {
     ) -> Result<(), StepFault>
         requires { step.old ≡ blank }
         ensures answer { (facts : List AFact) → S.stands self.now.store facts
-            → written result step.new ≡ refused_given (key_refused_of facts transaction.now) fault }
+            → unless_refused result step.new ≡ refused_given (key_refused_of facts transaction.now) fault }
         ensures fact { step.new.fact ≡ step.old.fact }
     {
         match fault {
@@ -81,7 +81,7 @@ impl<S: FactStore + Drop> Node<S> {
         step: &mut Step,
     ) -> Result<(), StepFault>
         requires { step.old ≡ blank }
-        ensures follows { Follows S.stands self.old (written result step.new) self.new (λ cluster me facts volatile. Ok (begin_step (here cluster me facts) volatile transaction.now)) }
+        ensures follows { Follows S.stands self.old (unless_refused result step.new) self.new (λ cluster me facts volatile. Ok (begin_step (here cluster me facts) volatile transaction.now)) }
         ensures fact { step.new.fact ≡ None }
         ensures store { self.new.store ≡ self.old.store }
     {
@@ -135,7 +135,7 @@ impl<S: FactStore + Drop> Node<S> {
     fn undecided(&mut self, vote: &Vote, sends: &mut HeapList<Envelope>) -> Result<(), StepFault>
         requires { (cluster : ACluster) (me : ℕ) (facts : List AFact) (volatile : AVolatile) → RepresentsCentre S.stands self.old cluster me facts volatile
             → would_decide cluster.quorums volatile.manager vote.now ≡ None }
-        ensures { Acts S.stands self.old sends.old (written result sends.new) self.new (λ cluster me facts volatile. Ok (opened_step (here cluster me facts) volatile vote.now (would_decide cluster.quorums volatile.manager vote.now))) }
+        ensures { Acts S.stands self.old sends.old (unless_refused result sends.new) self.new (λ cluster me facts volatile. Ok (opened_step (here cluster me facts) volatile vote.now (would_decide cluster.quorums volatile.manager vote.now))) }
     {
         let mut act = None;
         self.manager.answer_vote(&self.cluster, vote, &mut act)?;
@@ -150,7 +150,7 @@ impl<S: FactStore + Drop> Node<S> {
         requires unsettled { (facts : List AFact) → S.stands self.now.store facts → is_settled facts vote.now.tx ≡ false }
         requires ends { (cluster : ACluster) (me : ℕ) (facts : List AFact) (volatile : AVolatile) → RepresentsCentre S.stands self.now cluster me facts volatile
             → is_some (would_decide cluster.quorums volatile.manager vote.now) ≡ true }
-        ensures plan { Plans S.stands self.now (written result step.new) self.now (λ cluster me facts volatile. Ok (opened_step (here cluster me facts) volatile vote.now (would_decide cluster.quorums volatile.manager vote.now))) }
+        ensures plan { Plans S.stands self.now (unless_refused result step.new) self.now (λ cluster me facts volatile. Ok (opened_step (here cluster me facts) volatile vote.now (would_decide cluster.quorums volatile.manager vote.now))) }
         ensures fact { (facts : List AFact) → S.stands self.now.store facts → OnOk result (MayFollow facts step.new.fact) }
     {
         match self.manager.would_decide(&self.cluster, vote) {
@@ -167,7 +167,7 @@ impl<S: FactStore + Drop> Node<S> {
     fn opened(&mut self, vote: &Vote, step: &mut Step) -> Result<(), StepFault>
         requires blank { step.old ≡ blank }
         requires unsettled { (facts : List AFact) → S.stands self.old.store facts → is_settled facts vote.now.tx ≡ false }
-        ensures plan { Plans S.stands self.old (written result step.new) self.new (λ cluster me facts volatile. Ok (opened_step (here cluster me facts) volatile vote.now (would_decide cluster.quorums volatile.manager vote.now))) }
+        ensures plan { Plans S.stands self.old (unless_refused result step.new) self.new (λ cluster me facts volatile. Ok (opened_step (here cluster me facts) volatile vote.now (would_decide cluster.quorums volatile.manager vote.now))) }
         ensures fact { (facts : List AFact) → S.stands self.old.store facts → OnOk result (MayFollow facts step.new.fact) }
     {
         if self.manager.would_end(&self.cluster, vote) {
@@ -181,7 +181,7 @@ impl<S: FactStore + Drop> Node<S> {
     // watched here, changes nothing.
     pub(crate) fn voted(&mut self, vote: &Vote, step: &mut Step) -> Result<(), StepFault>
         requires { step.old ≡ blank }
-        ensures plan { Plans S.stands self.old (written result step.new) self.new (λ cluster me facts volatile. Ok (voted_step (here cluster me facts) volatile vote.now)) }
+        ensures plan { Plans S.stands self.old (unless_refused result step.new) self.new (λ cluster me facts volatile. Ok (voted_step (here cluster me facts) volatile vote.now)) }
         ensures fact { (facts : List AFact) → S.stands self.old.store facts → OnOk result (MayFollow facts step.new.fact) }
     {
         if self.store.is_settled(vote.tx) {
@@ -203,7 +203,7 @@ impl<S: FactStore + Drop> Node<S> {
         sends: &mut HeapList<Envelope>,
     ) -> Result<(), StepFault>
         requires { IsWellFormedCause cause }
-        ensures { Acts S.stands self.old sends.old (written result sends.new) self.new (λ cluster me facts volatile. Ok (escalate_step (here cluster me facts) volatile from key.now tx cause)) }
+        ensures { Acts S.stands self.old sends.old (unless_refused result sends.new) self.new (λ cluster me facts volatile. Ok (escalate_step (here cluster me facts) volatile from key.now tx cause)) }
     {
         let act = self
             .manager

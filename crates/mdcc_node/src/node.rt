@@ -2,34 +2,34 @@
 ghost use Rattle.std.specs.Prelude.{◌≡◌, ◌≤◌, ◌+◌, ◌∷◌, List, ℕ, OnErr, OnOk, Some, false, true};
 ghost use Rattle.mdcc_base.specs.Unless.{GivesUnless};
 ghost use Rattle.mdcc_facts.specs.Adding.{add_result};
-ghost use Rattle.mdcc_messages.specs.WellFormed.{IsWellFormedEnvelope, IsWellFormedMessage};
-ghost use Rattle.mdcc_messages.specs.declared.facts.Fact.{Fact as AFact};
-ghost use Rattle.mdcc_node.specs.MethodEffects.{Does, Follows, Spends, ended};
-ghost use Rattle.mdcc_node.specs.StepPlans.{FitsFrame, IsNews, MayFollow, PlanFitsFrame, Plans, blank, is_asked_by_leader, is_for_leader, is_of_fast_path, written};
+ghost use Rattle.mdcc_def_messages.specs.WellFormed.{IsWellFormedEnvelope, IsWellFormedMessage};
+ghost use Rattle.mdcc_def_messages.specs.declared.facts.Fact.{Fact as AFact};
+ghost use Rattle.mdcc_node.specs.MethodEffects.{Does, Follows, Spends, closed_if_ended};
+ghost use Rattle.mdcc_node.specs.StepPlans.{FitsFrame, IsNews, MayFollow, PlanFitsFrame, Plans, blank, is_asked_by_leader, is_for_leader, is_of_fast_path, unless_refused};
 ghost use Rattle.mdcc_node.specs.NodeHistory.{IsRunning};
 ghost use Rattle.mdcc_node.specs.Represents.{RepresentsCentre};
-ghost use Rattle.mdcc_node.specs.StepAnswers.{IsGiven, add_given, is_step_memory, room_of, step_by, if_plan_added};
+ghost use Rattle.mdcc_node.specs.StepAnswers.{IsInputGiven, add_given, is_step_memory, room_of, step_by, if_plan_added};
 ghost use Rattle.mdcc_option.specs.declared.cluster.Cluster.{Cluster as ACluster};
-ghost use Rattle.mdcc_protocol.specs.Belongs.{is_centre};
-ghost use Rattle.mdcc_protocol.specs.Facts.{epoch_of};
-ghost use Rattle.mdcc_protocol.specs.Volatile.{Volatile as AVolatile, closed};
-ghost use Rattle.mdcc_rules.specs.Node.{message_step};
-ghost use Rattle.mdcc_rules.specs.Steps.{heard_by, with_new};
-ghost use Rattle.mdcc_rules.specs.declared.node.Input.{Input as AInput};
-ghost use Rattle.mdcc_steps.specs.NodeInvariant.{accept_length};
-ghost use Rattle.mdcc_rules.specs.Here.{here};
+ghost use Rattle.mdcc_def_protocol.specs.Belongs.{is_centre};
+ghost use Rattle.mdcc_def_protocol.specs.Facts.{epoch_of};
+ghost use Rattle.mdcc_def_protocol.specs.Volatile.{Volatile as AVolatile, closed};
+ghost use Rattle.mdcc_def_rules.specs.Node.{message_step};
+ghost use Rattle.mdcc_def_rules.specs.Steps.{heard_by, with_new};
+ghost use Rattle.mdcc_def_rules.specs.declared.node.Input.{Input as AInput};
+ghost use Rattle.mdcc_theorem_node_steps.specs.NodeInvariant.{accept_length};
+ghost use Rattle.mdcc_def_rules.specs.Here.{here};
 
 use crate::steps::{blank, heard_by};
 use mdcc_base::{Centre, Plain, TxId};
+use mdcc_def_messages::{Envelope, Fact, Message};
+use mdcc_def_protocol::{Give, Promise, Vote};
+use mdcc_def_rules::{Answer, Input, Step, StepFault};
 use mdcc_facts::FactStore;
 use mdcc_leader::Leader;
 use mdcc_manager::Manager;
-use mdcc_messages::{Envelope, Fact, Message};
+use mdcc_node_sends::sender_of;
 use mdcc_option::Cluster;
-use mdcc_protocol::{Give, Promise, Vote};
 use mdcc_recover::Recover;
-use mdcc_rules::{Answer, Input, Step, StepFault};
-use mdcc_sends::sender_of;
 use mdcc_visible::read;
 use std::alloc::Global;
 
@@ -62,7 +62,7 @@ impl<S: FactStore + Drop> Node<S> {
         ensures answer { (facts : List AFact) → S.stands self.old.store facts
             → GivesUnless is_step_memory result (add_given (add_result (S.room self.old.store) (S.cells_for self.old.store fact.now) facts fact.now)) }
         ensures ok { (cluster : ACluster) (me : ℕ) (facts : List AFact) (volatile : AVolatile) → RepresentsCentre S.stands self.old cluster me facts volatile
-            → OnOk result (RepresentsCentre S.stands self.new cluster me (fact.now ∷ facts) (ended (heard_by (Some fact.now)) volatile)) }
+            → OnOk result (RepresentsCentre S.stands self.new cluster me (fact.now ∷ facts) (closed_if_ended (heard_by (Some fact.now)) volatile)) }
         ensures err { (cluster : ACluster) (me : ℕ) (facts : List AFact) (volatile : AVolatile) → RepresentsCentre S.stands self.old cluster me facts volatile
             → OnErr result (RepresentsCentre S.stands self.new cluster me facts volatile) }
         ensures left { (facts : List AFact) → S.stands self.old.store facts → OnErr result (S.stands self.new.store facts) }
@@ -91,13 +91,13 @@ impl<S: FactStore + Drop> Node<S> {
         requires follows { (facts : List AFact) → S.stands self.old.store facts → MayFollow facts step.old.fact }
         requires fits { PlanFitsFrame step.old.fact }
         ensures answer { (facts : List AFact) → S.stands self.old.store facts
-            → GivesUnless is_step_memory (written result step.new) (if_plan_added (room_of S.room S.cells_for self.old.store) facts step.old step.old.fact) }
+            → GivesUnless is_step_memory (unless_refused result step.new) (if_plan_added (room_of S.room S.cells_for self.old.store) facts step.old step.old.fact) }
         ensures ok { (cluster : ACluster) (me : ℕ) (facts : List AFact) (volatile : AVolatile) → RepresentsCentre S.stands self.old cluster me facts volatile
-            → OnOk result (RepresentsCentre S.stands self.new cluster me (with_new facts step.old.fact) (ended (heard_by step.old.fact) volatile)) }
+            → OnOk result (RepresentsCentre S.stands self.new cluster me (with_new facts step.old.fact) (closed_if_ended (heard_by step.old.fact) volatile)) }
         ensures err { (cluster : ACluster) (me : ℕ) (facts : List AFact) (volatile : AVolatile) → RepresentsCentre S.stands self.old cluster me facts volatile
             → OnErr result (RepresentsCentre S.stands self.new cluster me facts volatile) }
         ensures left { (facts : List AFact) → S.stands self.old.store facts → OnErr result (S.stands self.new.store facts) }
-        ensures spent { Spends S.room S.cells_for self.old.store (written result step.new) self.new.store }
+        ensures spent { Spends S.room S.cells_for self.old.store (unless_refused result step.new) self.new.store }
     {
         if let Some(fact) = &step.fact {
             self.add(fact)?;
@@ -119,7 +119,7 @@ impl<S: FactStore + Drop> Node<S> {
         requires left { is_asked_by_leader message.now ≡ false }
         requires led { is_for_leader message.now ≡ false }
         requires blank { step.old ≡ blank }
-        ensures plan { Plans S.stands self.old (written result step.new) self.new (λ cluster me facts volatile. message_step (here cluster me facts) volatile from message.now) }
+        ensures plan { Plans S.stands self.old (unless_refused result step.new) self.new (λ cluster me facts volatile. message_step (here cluster me facts) volatile from message.now) }
         ensures fact { (facts : List AFact) → S.stands self.old.store facts → OnOk result (MayFollow facts step.new.fact) }
     {
         match message {
@@ -165,7 +165,7 @@ impl<S: FactStore + Drop> Node<S> {
         requires left { is_asked_by_leader message.now ≡ false }
         requires member { from ≤ self.old.cluster.quorums.centres }
         requires blank { step.old ≡ blank }
-        ensures plan { Plans S.stands self.old (written result step.new) self.new (λ cluster me facts volatile. message_step (here cluster me facts) volatile from message.now) }
+        ensures plan { Plans S.stands self.old (unless_refused result step.new) self.new (λ cluster me facts volatile. message_step (here cluster me facts) volatile from message.now) }
         ensures fact { (facts : List AFact) → S.stands self.old.store facts → OnOk result (MayFollow facts step.new.fact) }
     {
         match message {
@@ -211,7 +211,7 @@ impl<S: FactStore + Drop> Node<S> {
         requires other { is_of_fast_path message.now ≡ false }
         requires member { from ≤ self.old.cluster.quorums.centres }
         requires blank { step.old ≡ blank }
-        ensures plan { Plans S.stands self.old (written result step.new) self.new (λ cluster me facts volatile. message_step (here cluster me facts) volatile from message.now) }
+        ensures plan { Plans S.stands self.old (unless_refused result step.new) self.new (λ cluster me facts volatile. message_step (here cluster me facts) volatile from message.now) }
         ensures fact { (facts : List AFact) → S.stands self.old.store facts → OnOk result (MayFollow facts step.new.fact) }
     {
         match message {
@@ -242,7 +242,7 @@ impl<S: FactStore + Drop> Node<S> {
         requires message { IsWellFormedMessage message.now }
         requires member { from ≤ self.old.cluster.quorums.centres }
         requires blank { step.old ≡ blank }
-        ensures plan { Plans S.stands self.old (written result step.new) self.new (λ cluster me facts volatile. message_step (here cluster me facts) volatile from message.now) }
+        ensures plan { Plans S.stands self.old (unless_refused result step.new) self.new (λ cluster me facts volatile. message_step (here cluster me facts) volatile from message.now) }
         ensures fact { (facts : List AFact) → S.stands self.old.store facts → OnOk result (MayFollow facts step.new.fact) }
     {
         match message {
@@ -286,8 +286,8 @@ impl<S: FactStore + Drop> Node<S> {
         requires running { IsRunning S.stands self.old }
         requires member { from ≤ self.old.cluster.quorums.centres }
         requires blank { step.old ≡ blank }
-        ensures does { Does S.stands S.room S.cells_for self.old (written result step.new) self.new (λ cluster me facts volatile. message_step (here cluster me facts) volatile from message.now) }
-        ensures spent { Spends S.room S.cells_for self.old.store (written result step.new) self.new.store }
+        ensures does { Does S.stands S.room S.cells_for self.old (unless_refused result step.new) self.new (λ cluster me facts volatile. message_step (here cluster me facts) volatile from message.now) }
+        ensures spent { Spends S.room S.cells_for self.old.store (unless_refused result step.new) self.new.store }
     {
         self.take(from, message, step)?;
         self.add_planned(step)
@@ -300,8 +300,8 @@ impl<S: FactStore + Drop> Node<S> {
         requires short { accept_length envelope.now.message ≤ 2097152 }
         requires running { IsRunning S.stands self.old }
         requires blank { step.old ≡ blank }
-        ensures follows { Follows S.stands self.old (written result step.new) self.new (λ cluster me facts volatile. step_by (room_of S.room S.cells_for self.old.store) cluster me facts volatile (AInput.Message envelope.now)) }
-        ensures spent { Spends S.room S.cells_for self.old.store (written result step.new) self.new.store }
+        ensures follows { Follows S.stands self.old (unless_refused result step.new) self.new (λ cluster me facts volatile. step_by (room_of S.room S.cells_for self.old.store) cluster me facts volatile (AInput.Message envelope.now)) }
+        ensures spent { Spends S.room S.cells_for self.old.store (unless_refused result step.new) self.new.store }
     {
         match sender_of(&self.cluster, self.centre.number(), envelope) {
             Some(from) => self.receive(from, &envelope.message, step),
@@ -311,11 +311,11 @@ impl<S: FactStore + Drop> Node<S> {
 
     /// What an input does, written into a blank step.
     pub fn act_on(&mut self, input: &Input, step: &mut Step) -> Result<(), StepFault>
-        requires input { IsGiven input.now }
+        requires input { IsInputGiven input.now }
         requires running { IsRunning S.stands self.old }
         requires blank { step.old ≡ blank }
-        ensures follows { Follows S.stands self.old (written result step.new) self.new (λ cluster me facts volatile. step_by (room_of S.room S.cells_for self.old.store) cluster me facts volatile input.now) }
-        ensures spent { Spends S.room S.cells_for self.old.store (written result step.new) self.new.store }
+        ensures follows { Follows S.stands self.old (unless_refused result step.new) self.new (λ cluster me facts volatile. step_by (room_of S.room S.cells_for self.old.store) cluster me facts volatile input.now) }
+        ensures spent { Spends S.room S.cells_for self.old.store (unless_refused result step.new) self.new.store }
     {
         match input {
             Input::Message(envelope) => self.deliver(envelope, step),
@@ -337,7 +337,7 @@ impl<S: FactStore + Drop> Node<S> {
     /// where there was no memory only its facts are, and it is to be booted again. The store has fewer
     /// cells spare by those of the fact.
     pub fn step(&mut self, input: &Input) -> Result<Step, StepFault>
-        requires input { IsGiven input.now }
+        requires input { IsInputGiven input.now }
         requires running { IsRunning S.stands self.old }
         ensures follows { Follows S.stands self.old result self.new (λ cluster me facts volatile. step_by (room_of S.room S.cells_for self.old.store) cluster me facts volatile input.now) }
         ensures spent { Spends S.room S.cells_for self.old.store result self.new.store }

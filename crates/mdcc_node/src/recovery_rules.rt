@@ -1,24 +1,24 @@
 //! The node's rules around its recovery: votes on watched transactions, questions about a transaction,
 //! and the dangling transactions at a tick.
 ghost use Rattle.std.specs.Prelude.{◌≡◌, ◌++◌, [], List, None, Ok, OnOk, false};
-ghost use Rattle.mdcc_messages.specs.declared.facts.Fact.{Fact as AFact};
-ghost use Rattle.mdcc_node.specs.StepPlans.{Acts, MayFollow, Plans, blank, planned, written};
-ghost use Rattle.mdcc_protocol.specs.Facts.{is_settled, vote_of};
-ghost use Rattle.mdcc_protocol.specs.Recover.{would_decide};
-ghost use Rattle.mdcc_protocol.specs.Volatile.{Volatile as AVolatile};
-ghost use Rattle.mdcc_rules.specs.AcceptorRules.{ask_step, ask_step_after};
-ghost use Rattle.mdcc_rules.specs.ManagerRules.{watched_step};
-ghost use Rattle.mdcc_rules.specs.Steps.{only_sending, step_of_part};
-ghost use Rattle.mdcc_rules.specs.TickRules.{recovery_act, recovery_ticked, tick_step};
-ghost use Rattle.mdcc_rules.specs.Here.{here};
+ghost use Rattle.mdcc_def_messages.specs.declared.facts.Fact.{Fact as AFact};
+ghost use Rattle.mdcc_node.specs.StepPlans.{Acts, MayFollow, Plans, blank, planned, unless_refused};
+ghost use Rattle.mdcc_def_protocol.specs.Facts.{is_settled, vote_of};
+ghost use Rattle.mdcc_def_protocol.specs.Recover.{would_decide};
+ghost use Rattle.mdcc_def_protocol.specs.Volatile.{Volatile as AVolatile};
+ghost use Rattle.mdcc_def_rules.specs.AcceptorRules.{ask_step, ask_step_after};
+ghost use Rattle.mdcc_def_rules.specs.ManagerRules.{watched_step};
+ghost use Rattle.mdcc_def_rules.specs.Steps.{only_sending, step_of_part};
+ghost use Rattle.mdcc_def_rules.specs.TickRules.{recovery_act, recovery_ticked, tick_step};
+ghost use Rattle.mdcc_def_rules.specs.Here.{here};
 
 use crate::node::Node;
 use mdcc_base::{HeapList, Key, Memory, TxId};
+use mdcc_def_messages::{Envelope, Message};
+use mdcc_def_protocol::{RecoverAct, Vote};
+use mdcc_def_rules::{Step, StepFault};
 use mdcc_facts::FactStore;
-use mdcc_messages::{Envelope, Message};
-use mdcc_protocol::{RecoverAct, Vote};
-use mdcc_rules::{Step, StepFault};
-use mdcc_sends::{ask_votes, send};
+use mdcc_node_sends::{ask_votes, send};
 
 impl<S: FactStore + Drop> Node<S> {
     // ---- questions
@@ -98,7 +98,7 @@ impl<S: FactStore + Drop> Node<S> {
     pub(crate) fn watched(&mut self, vote: &Vote, step: &mut Step) -> Result<(), StepFault>
         requires blank { step.old ≡ blank }
         requires unsettled { (facts : List AFact) → S.stands self.old.store facts → is_settled facts vote.now.tx ≡ false }
-        ensures plan { Plans S.stands self.old (written result step.new) self.new (λ cluster me facts volatile. Ok (watched_step (here cluster me facts) volatile vote.now (would_decide cluster.quorums facts volatile.recovery vote.now))) }
+        ensures plan { Plans S.stands self.old (unless_refused result step.new) self.new (λ cluster me facts volatile. Ok (watched_step (here cluster me facts) volatile vote.now (would_decide cluster.quorums facts volatile.recovery vote.now))) }
         ensures fact { (facts : List AFact) → S.stands self.old.store facts → OnOk result (MayFollow facts step.new.fact) }
     {
         match self.recover.would_decide(&self.store, &self.cluster, vote) {
@@ -122,7 +122,7 @@ impl<S: FactStore + Drop> Node<S> {
         act: &RecoverAct,
         sends: &mut HeapList<Envelope>,
     ) -> Result<(), StepFault>
-        ensures { Acts S.stands self.old sends.old (written result sends.new) self.new (λ cluster me facts volatile. Ok (step_of_part (recovery_act (here cluster me facts) volatile act.now))) }
+        ensures { Acts S.stands self.old sends.old (unless_refused result sends.new) self.new (λ cluster me facts volatile. Ok (step_of_part (recovery_act (here cluster me facts) volatile act.now))) }
     {
         match act {
             RecoverAct::Ask(tx, key, version) => {
@@ -136,7 +136,7 @@ impl<S: FactStore + Drop> Node<S> {
 
     // Time has passed for the dangling transactions. Each act sees the leader that those before it left.
     fn tick_dangling(&mut self, sends: &mut HeapList<Envelope>) -> Result<(), StepFault>
-        ensures { Acts S.stands self.old sends.old (written result sends.new) self.new (λ cluster me facts volatile. Ok (step_of_part (recovery_ticked (here cluster me facts) (only_sending volatile [])))) }
+        ensures { Acts S.stands self.old sends.old (unless_refused result sends.new) self.new (λ cluster me facts volatile. Ok (step_of_part (recovery_ticked (here cluster me facts) (only_sending volatile [])))) }
     {
         let acts = self.recover.tick(&self.store, self.manager.opened())?;
         for act in &acts {
@@ -147,7 +147,7 @@ impl<S: FactStore + Drop> Node<S> {
 
     // Time has passed. The recovery sees what the open transactions left.
     pub(crate) fn tick(&mut self, sends: &mut HeapList<Envelope>) -> Result<(), StepFault>
-        ensures { Acts S.stands self.old sends.old (written result sends.new) self.new (λ cluster me facts volatile. Ok (tick_step (here cluster me facts) volatile)) }
+        ensures { Acts S.stands self.old sends.old (unless_refused result sends.new) self.new (λ cluster me facts volatile. Ok (tick_step (here cluster me facts) volatile)) }
     {
         self.tick_opened(sends)?;
         self.tick_dangling(sends)

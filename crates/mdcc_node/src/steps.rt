@@ -2,14 +2,14 @@
 ghost use Rattle.std.specs.Prelude.{◌≡◌, None, OnOk, Some};
 ghost use Rattle.mdcc_node.specs.StepPlans.{blank};
 ghost use Rattle.mdcc_node.specs.StepParts.{offered, vote_fact};
-ghost use Rattle.mdcc_protocol.specs.Leader.{claim_of_choice};
-ghost use Rattle.mdcc_rules.specs.Steps.{heard_by};
-ghost use Rattle.mdcc_messages.specs.declared.messages.Message.{Message as AMessage};
+ghost use Rattle.mdcc_def_protocol.specs.Leader.{claim_of_choice};
+ghost use Rattle.mdcc_def_rules.specs.Steps.{heard_by};
+ghost use Rattle.mdcc_def_messages.specs.declared.messages.Message.{Message as AMessage};
 
 use mdcc_base::{Ballot, HeapList, Memory, Plain, TxId};
-use mdcc_messages::{Fact, Message};
+use mdcc_def_messages::{Fact, Message};
+use mdcc_def_rules::Step;
 use mdcc_option::{Choice, Claim, Mark, Outcome};
-use mdcc_rules::Step;
 use mdcc_struct::Options;
 use std::alloc::Global;
 

@@ -1,17 +1,17 @@
 //! The node's rules for centres that are behind: what it gives another one, and what it adopts.
 ghost use Rattle.std.specs.Prelude.{◌≡◌, ◌++◌, List, OnOk};
-ghost use Rattle.mdcc_messages.specs.declared.facts.Fact.{Fact as AFact};
+ghost use Rattle.mdcc_def_messages.specs.declared.facts.Fact.{Fact as AFact};
 ghost use Rattle.mdcc_node.specs.StepPlans.{MayFollow, blank, planned};
-ghost use Rattle.mdcc_protocol.specs.Volatile.{Volatile as AVolatile};
-ghost use Rattle.mdcc_rules.specs.SyncRules.{give_sent, sync_give_step};
+ghost use Rattle.mdcc_def_protocol.specs.Volatile.{Volatile as AVolatile};
+ghost use Rattle.mdcc_def_rules.specs.SyncRules.{give_sent, sync_give_step};
 
 use crate::node::Node;
 use mdcc_base::{HeapList, Key, Memory};
+use mdcc_def_messages::{Envelope, Message};
+use mdcc_def_protocol::Give;
+use mdcc_def_rules::Step;
 use mdcc_facts::FactStore;
-use mdcc_messages::{Envelope, Message};
-use mdcc_protocol::Give;
-use mdcc_rules::Step;
-use mdcc_sends::send;
+use mdcc_node_sends::send;
 use mdcc_visible::{on_sync_ask, on_sync_give};
 
 impl<S: FactStore + Drop> Node<S> {

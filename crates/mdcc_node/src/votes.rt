@@ -1,19 +1,19 @@
 //! The votes of an acceptor on a leader's structure.
 ghost use Rattle.std.specs.Prelude.{◌≡◌, ◌++◌, ◌&&◌, ◌-◌, ◌==◌, IfOk, List, None, OnOk, filter, is_some, length, not};
-ghost use Rattle.mdcc_messages.specs.declared.facts.Fact.{Fact as AFact};
-ghost use Rattle.mdcc_messages.specs.declared.messages.Message.{Message as AMessage};
+ghost use Rattle.mdcc_def_messages.specs.declared.facts.Fact.{Fact as AFact};
+ghost use Rattle.mdcc_def_messages.specs.declared.messages.Message.{Message as AMessage};
 ghost use Rattle.mdcc_node.specs.StepParts.{is_new, is_unknown};
 ghost use Rattle.mdcc_node.specs.StepPlans.{unsettled_sent};
-ghost use Rattle.mdcc_protocol.specs.Acceptor;
+ghost use Rattle.mdcc_def_protocol.specs.Acceptor;
 ghost use Rattle.mdcc_facts.specs.Past.{count_past};
-ghost use Rattle.mdcc_rules.specs.AcceptorRules.{all_votes_sent, votes_sent};
+ghost use Rattle.mdcc_def_rules.specs.AcceptorRules.{all_votes_sent, votes_sent};
 ghost use Rattle.mdcc_struct.specs.Maps.{inserted, value_of};
 
 use mdcc_base::{Ballot, HeapList, Key, Memory, Plain, TxId};
+use mdcc_def_messages::{Envelope, Message};
 use mdcc_facts::FactStore;
-use mdcc_messages::{Envelope, Message};
+use mdcc_node_sends::send;
 use mdcc_option::Mark;
-use mdcc_sends::send;
 use mdcc_struct::Options;
 use std::alloc::Global;
 

@@ -8,7 +8,7 @@ use Rattle.std.proofs.lemmas.Bool.{cases_Bool, and_parts}
 use Rattle.std.specs.Cmp.Lexicographic.{nat_list_eq_equiv}
 use Rattle.mdcc_base.specs.Key.{key_eq, key_lt}
 use Rattle.mdcc_option.specs.declared.items.Part.{Part}
-use Rattle.mdcc_option.specs.Parts.{with_part, sorted_parts, is_key_repeated, are_ascending}
+use Rattle.mdcc_option.specs.Parts.{with_part, sorted_parts, is_key_repeated, are_parts_ascending}
 
 -- of two keys that are not one, one stands before the other
 pub key_lt-total : (a b : List ℕ) → key_lt a b ≡ false → key_eq b a ≡ false → key_lt b a ≡ true
@@ -39,7 +39,7 @@ has_key-with_part (q ∷ qs) p k h e =
     ]
 
 -- a part of a new key keeps the order
-ascending-with_part : (acc : List Part) (p : Part) → are_ascending acc ≡ true → has_key acc p.key ≡ false → are_ascending (with_part acc p) ≡ true
+ascending-with_part : (acc : List Part) (p : Part) → are_parts_ascending acc ≡ true → has_key acc p.key ≡ false → are_parts_ascending (with_part acc p) ≡ true
 ascending-with_part [] p h e = refl
 ascending-with_part (q ∷ []) p h e =
     elim (cases_Bool (key_lt p.key q.key)) [
@@ -56,9 +56,9 @@ ascending-with_part (q ∷ r ∷ rs) p h e =
         | inl g ↦ absurd (let bad : true ≡ false = rw g at e in cc)
         | inr g ↦
             let below : key_lt q.key p.key ≡ true = key_lt-total p.key q.key f g in
-            let parts : (key_lt q.key r.key ≡ true) × (are_ascending (r ∷ rs) ≡ true) = and_parts (key_lt q.key r.key) (are_ascending (r ∷ rs)) h in
+            let parts : (key_lt q.key r.key ≡ true) × (are_parts_ascending (r ∷ rs) ≡ true) = and_parts (key_lt q.key r.key) (are_parts_ascending (r ∷ rs)) h in
             let rest : has_key (r ∷ rs) p.key ≡ false = rw g at e in
-            let more : are_ascending (with_part (r ∷ rs) p) ≡ true = ascending-with_part (r ∷ rs) p parts.1 rest in
+            let more : are_parts_ascending (with_part (r ∷ rs) p) ≡ true = ascending-with_part (r ∷ rs) p parts.1 rest in
             rw f (elim (cases_Bool (key_lt p.key r.key)) [
               | inl k ↦ rw (k, below) (rw k at more)
               | inr k ↦ rw (k, parts.0) (rw k at more)
@@ -79,7 +79,7 @@ still_new acc p (q ∷ qs) h e =
       | inr g ↦ (has_key-with_part acc p q.key h.0 (key_eq-sym q.key p.key g), still_new acc p qs h.1 (rw g at e))
     ]
 
-ascending-fold : (acc ps : List Part) → are_ascending acc ≡ true → AreNew acc ps → is_key_repeated ps ≡ false → are_ascending (fold with_part acc ps) ≡ true
+ascending-fold : (acc ps : List Part) → are_parts_ascending acc ≡ true → AreNew acc ps → is_key_repeated ps ≡ false → are_parts_ascending (fold with_part acc ps) ≡ true
 ascending-fold acc [] h new e = h
 ascending-fold acc (p ∷ ps) h new e =
     elim (cases_Bool (has_key ps p.key)) [
@@ -92,7 +92,7 @@ all_new [] = tt
 all_new (p ∷ ps) = (refl, all_new ps)
 
 -- parts of distinct keys are sorted so that each key stands before the next
-pub ascending-sorted_parts : (ps : List Part) → is_key_repeated ps ≡ false → are_ascending (sorted_parts ps) ≡ true
+pub ascending-sorted_parts : (ps : List Part) → is_key_repeated ps ≡ false → are_parts_ascending (sorted_parts ps) ≡ true
 ascending-sorted_parts ps e = ascending-fold [] ps refl (all_new ps) e
 
 -- ---- the same parts

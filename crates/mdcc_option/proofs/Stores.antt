@@ -9,8 +9,8 @@ use Rattle.std.specs.Option.{is_none}
 use Rattle.std.specs.Ordering.{nat_cmp}
 use Rattle.mdcc_base.specs.Key.{key_eq, key_lt}
 use Rattle.mdcc_option.specs.Held.{Held}
-use Rattle.mdcc_option.specs.OneCopy.{Store, may_apply, stored, key_failed, store_after}
-use Rattle.mdcc_option.specs.StoreMap.{StoreMap, store_of}
+use Rattle.mdcc_option.specs.OneCopy.{OneCopyStore, may_apply, stored, key_failed, store_after}
+use Rattle.mdcc_option.specs.StoreMap.{StoreMap, one_copy_of}
 use Rattle.mdcc_option.specs.declared.choices.Choice.{Choice}
 
 find-lookup : (key : List ℕ) (es : List (List ℕ × Held)) → find (slice_cmp nat_cmp) key es ≡ lookup (key_eq key) es
@@ -20,14 +20,14 @@ find-lookup key (e ∷ es) =
     ∙ ap (λ rest. cond (key_eq key e.0) (Some e.1) rest) (find-lookup key es)
 
 -- the store that a list of entries is
-pub store_of-from_entries : (es : List (List ℕ × Held)) → store_of (from_entries es) ≡ (λ key. lookup (key_eq key) es)
+pub store_of-from_entries : (es : List (List ℕ × Held)) → one_copy_of (from_entries es) ≡ (λ key. lookup (key_eq key) es)
 store_of-from_entries es = λ i key. (get-from_entries nat_list_cmp_total es key ∙ find-lookup key es) i
 
 -- the same of a value that is made of such a list
-pub store_of-entries : (map : StoreMap) (es : List (List ℕ × Held)) → from_entries es ≡ map → store_of map ≡ (λ key. lookup (key_eq key) es)
-store_of-entries map es made = ap store_of (sym made) ∙ store_of-from_entries es
+pub store_of-entries : (map : StoreMap) (es : List (List ℕ × Held)) → from_entries es ≡ map → one_copy_of map ≡ (λ key. lookup (key_eq key) es)
+store_of-entries map es made = ap one_copy_of (sym made) ∙ store_of-from_entries es
 
-module _ (schema : List (ℤ × ℤ)) (store : Store) where
+module _ (schema : List (ℤ × ℤ)) (store : OneCopyStore) where
   -- a key that fails leaves one that fails
   key_failed-some : (least : List ℕ) (choices : List Choice) → is_none (key_failed schema store (Some least) choices) ≡ false
   key_failed-some least [] = refl

@@ -17,15 +17,15 @@ use Rattle.mdcc_option.specs.declared.one_copy.Applied.{Applied}
 use Rattle.mdcc_option.specs.declared.one_copy.Applied.TheVariants.{Done, Refused}
 
 -- what is held of each key; a key that was never written has version 0 and no item
-abbrev pub Store : Type 0
-Store = List ℕ → Option Held
+abbrev pub OneCopyStore : Type 0
+OneCopyStore = List ℕ → Option Held
 
-abbrev pub empty_store : Store
+abbrev pub empty_store : OneCopyStore
 empty_store key = None
 
-abbrev pub version_in : Option Held → ℕ
-version_in None = 0
-version_in (Some held) = held.version
+abbrev pub version_held : Option Held → ℕ
+version_held None = 0
+version_held (Some held) = held.version
 
 abbrev pub deltas_in : Option Held → List Delta
 deltas_in None = []
@@ -62,7 +62,7 @@ seen_of deltas = map (λ delta. delta.tx) deltas
 -- a Write's token equals the present version and the set of the present deltas; it gives the next version
 abbrev pub written : ℕ → Item → List TxId → Option Held → Option Held
 written version item seen held =
-    if version_in held == version && txs_eq (seen_of (deltas_in held)) seen
+    if version_held held == version && txs_eq (seen_of (deltas_in held)) seen
     then Some (record { version = next_version version; base = item; deltas = [] })
     else None
 
@@ -87,27 +87,27 @@ if_in_bounds schema None = None
 if_in_bounds schema (Some held) = if is_in_bounds schema held then Some held else None
 
 -- what a choice makes of its key, where it may be applied
-abbrev pub held_after : List (ℤ × ℤ) → Store → Choice → Option Held
+abbrev pub held_after : List (ℤ × ℤ) → OneCopyStore → Choice → Option Held
 held_after schema store choice =
     if_in_bounds schema (updated choice.tx choice.version choice.update (store choice.key))
 
 -- ---- one transaction
 
-abbrev pub with_held : Store → List ℕ → Option Held → Store
+abbrev pub with_held : OneCopyStore → List ℕ → Option Held → OneCopyStore
 with_held store key None = store
 with_held store key (Some held) = λ other. if key_eq key other then Some held else store other
 
 -- the store with what each choice makes of its key in the store before
-abbrev pub stored : List (ℤ × ℤ) → Store → Store → List Choice → Store
+abbrev pub stored : List (ℤ × ℤ) → OneCopyStore → OneCopyStore → List Choice → OneCopyStore
 stored schema before store [] = store
 stored schema before store (choice ∷ choices) =
     stored schema before (with_held store choice.key (held_after schema before choice)) choices
 
-abbrev pub may_apply : List (ℤ × ℤ) → Store → Choice → Bool
+abbrev pub may_apply : List (ℤ × ℤ) → OneCopyStore → Choice → Bool
 may_apply schema store choice = is_some (held_after schema store choice)
 
 -- the store after a transaction, which changes all its keys; there is none where one of its choices may not be applied
-abbrev pub applied : List (ℤ × ℤ) → Store → List Choice → Option Store
+abbrev pub applied : List (ℤ × ℤ) → OneCopyStore → List Choice → Option OneCopyStore
 applied schema store choices =
     if list_all (may_apply schema store) choices then Some (stored schema store store choices) else None
 
@@ -117,22 +117,22 @@ least_key None key = Some key
 least_key (Some least) key = if key_lt key least then Some key else Some least
 
 -- the least key at which a choice may not be applied
-abbrev pub key_failed : List (ℤ × ℤ) → Store → Option (List ℕ) → List Choice → Option (List ℕ)
+abbrev pub key_failed : List (ℤ × ℤ) → OneCopyStore → Option (List ℕ) → List Choice → Option (List ℕ)
 key_failed schema store least [] = least
 key_failed schema store least (choice ∷ choices) =
     if may_apply schema store choice then key_failed schema store least choices
     else key_failed schema store (least_key least choice.key) choices
 
-abbrev pub answer_by : Option (List ℕ) → Applied
-answer_by None = Done
-answer_by (Some key) = Refused key
+abbrev pub applied_by : Option (List ℕ) → Applied
+applied_by None = Done
+applied_by (Some key) = Refused key
 
 -- done, or refused with the least key that fails
-abbrev pub answer_of : List (ℤ × ℤ) → Store → List Choice → Applied
-answer_of schema store choices = answer_by (key_failed schema store None choices)
+abbrev pub applied_answer : List (ℤ × ℤ) → OneCopyStore → List Choice → Applied
+applied_answer schema store choices = applied_by (key_failed schema store None choices)
 
 -- the store after a transaction that is asked for: changed as a whole, or as it was
-abbrev pub store_after : List (ℤ × ℤ) → Store → List Choice → Store
+abbrev pub store_after : List (ℤ × ℤ) → OneCopyStore → List Choice → OneCopyStore
 store_after schema store choices = unwrap_or (applied schema store choices) store
 
 -- ---- what a reader sees
@@ -152,7 +152,7 @@ shown held = (
 -- ---- runs
 
 -- the store after transactions in turn, where each may be applied
-abbrev pub store_run : List (ℤ × ℤ) → Store → List (List Choice) → Option Store
+abbrev pub store_run : List (ℤ × ℤ) → OneCopyStore → List (List Choice) → Option OneCopyStore
 store_run schema store [] = Some store
 store_run schema store (choices ∷ rest) = option_and_then (λ next. store_run schema next rest) (applied schema store choices)
 

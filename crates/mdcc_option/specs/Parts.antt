@@ -19,13 +19,13 @@ is_key_repeated [] = false
 is_key_repeated (p ∷ ps) = list_any (λ q. key_eq q.key p.key) ps || is_key_repeated ps
 
 -- each key stands before the next
-abbrev pub are_ascending : List Part → Bool
-are_ascending [] = true
-are_ascending (p ∷ []) = true
-are_ascending (p ∷ q ∷ ps) = key_lt p.key q.key && are_ascending (q ∷ ps)
+abbrev pub are_parts_ascending : List Part → Bool
+are_parts_ascending [] = true
+are_parts_ascending (p ∷ []) = true
+are_parts_ascending (p ∷ q ∷ ps) = key_lt p.key q.key && are_parts_ascending (q ∷ ps)
 
 -- 1 to 8 parts, in key order
 pub record AreParts (parts : List Part) : Type 0 where
   pub some : 1 ≤ length parts
   pub few : length parts ≤ 8
-  pub ascending : IsTrue (are_ascending parts)
+  pub ascending : IsTrue (are_parts_ascending parts)

@@ -74,13 +74,13 @@ transaction_of schema parts =
 -- ---- what it proposes
 
 -- all keys with their versions
-abbrev pub write_set_of : List Part → List (List ℕ × ℕ)
-write_set_of parts = map (λ part. (part.key, part.version)) parts
+abbrev pub write_set_of_parts : List Part → List (List ℕ × ℕ)
+write_set_of_parts parts = map (λ part. (part.key, part.version)) parts
 
-abbrev pub choice_of : TxId → List (List ℕ × ℕ) → Part → Choice
-choice_of tx write_set part =
+abbrev pub choice_of_part : TxId → List (List ℕ × ℕ) → Part → Choice
+choice_of_part tx write_set part =
     record { tx = tx; key = part.key; version = part.version; update = part.update; write_set = write_set }
 
 -- the choice for each key
 abbrev pub choices_of : TxId → List Part → List Choice
-choices_of tx parts = map (choice_of tx (write_set_of parts)) parts
+choices_of tx parts = map (choice_of_part tx (write_set_of_parts parts)) parts

@@ -3,7 +3,7 @@ ghost use Rattle.std.specs.Prelude.{◌≡◌, ◌+◌, ◌-◌, ◌*◌, ◌^�
 ghost use Rattle.std.specs.Bool.{OnTrue};
 ghost use Rattle.std.specs.Option.{option_copied};
 ghost use Rattle.mdcc_option.specs.Equality.{txs_eq};
-ghost use Rattle.mdcc_option.specs.OneCopy.{version_in, deltas_in, amount_at, value_after, values_after, next_version, seen_of, written, with_delta, added, if_in_bounds, read_value, shown};
+ghost use Rattle.mdcc_option.specs.OneCopy.{version_held, deltas_in, amount_at, value_after, values_after, next_version, seen_of, written, with_delta, added, if_in_bounds, read_value, shown};
 
 use crate::bounds::{are_sums_within, are_within};
 use crate::{Delta, Item, Seen, Token, Values};
@@ -173,7 +173,7 @@ fn with_delta(alloc: Global, deltas: &[Delta], delta: &Delta) -> Result<HeapList
 
 // Whether a Write's token is that of the present version and of the present deltas.
 fn is_present(held: Option<&HeldItem>, version: u64, seen: &[TxId]) -> bool
-    ensures { result ≡ (version_in (option_copied held.entry) == version && txs_eq (seen_of (deltas_in (option_copied held.entry))) seen.now) }
+    ensures { result ≡ (version_held (option_copied held.entry) == version && txs_eq (seen_of (deltas_in (option_copied held.entry))) seen.now) }
 {
     match held {
         Some(held) => {

@@ -3,8 +3,8 @@ ghost use Rattle.std.specs.Prelude.{◌≡◌, ◌≤◌, IfOk, IsOkAnd, OnOk, O
 ghost use Rattle.std.specs.HashMap.{get, spare, IsUnchanged};
 ghost use Rattle.std.specs.Map.{update_all};
 ghost use Rattle.mdcc_base.specs.Key.{key_eq};
-ghost use Rattle.mdcc_option.specs.OneCopy.{empty_store, held_after, may_apply, stored, least_key, key_failed, answer_of, store_after, shown};
-ghost use Rattle.mdcc_option.specs.StoreMap.{store_of};
+ghost use Rattle.mdcc_option.specs.OneCopy.{empty_store, held_after, may_apply, stored, least_key, key_failed, applied_answer, store_after, shown};
+ghost use Rattle.mdcc_option.specs.StoreMap.{one_copy_of};
 
 use crate::held::{HeldItem, added, may_add, may_write, shown, written};
 use crate::{Amounts, Choice, Delta, Item, Schema, Token, Update};
@@ -170,7 +170,7 @@ fn apply_to(
     schema: &[(i64, i64)],
     choices: &[Choice],
 ) -> Result<Applied, Memory>
-    ensures answer { IfOk result (λ applied. applied ≡ answer_of schema.now (get key_eq items.old) choices.now) }
+    ensures answer { IfOk result (λ applied. applied ≡ applied_answer schema.now (get key_eq items.old) choices.now) }
     ensures ok { OnOk result (get key_eq items.new ≡ store_after schema.now (get key_eq items.old) choices.now) }
     ensures err { OnErr result (IsUnchanged items.old items.new) }
 {
@@ -186,7 +186,7 @@ fn apply_to(
 impl OneCopy {
     /// The store in which no key was written.
     pub fn new(alloc: Global) -> Result<OneCopy, Memory>
-        ensures { IsOkAnd result (λ store. store_of store ≡ empty_store) }
+        ensures { IsOkAnd result (λ store. one_copy_of store ≡ empty_store) }
     {
         Ok(OneCopy {
             alloc,
@@ -197,8 +197,8 @@ impl OneCopy {
     /// Applies the choices of a transaction, all of them or none. A choice may be applied where its
     /// key is still as its writer saw it, and then has its values within their bounds.
     pub fn apply(&mut self, schema: &Schema, choices: &[Choice]) -> Result<Applied, Memory>
-        ensures answer { IfOk result (λ applied. applied ≡ answer_of schema.now (store_of self.old) choices.now) }
-        ensures ok { OnOk result (store_of self.new ≡ store_after schema.now (store_of self.old) choices.now) }
+        ensures answer { IfOk result (λ applied. applied ≡ applied_answer schema.now (one_copy_of self.old) choices.now) }
+        ensures ok { OnOk result (one_copy_of self.new ≡ store_after schema.now (one_copy_of self.old) choices.now) }
         ensures err { OnErr result (self.new ≡ self.old) }
     {
         apply_to(self.alloc, &mut self.items, schema.bounds(), choices)
@@ -206,7 +206,7 @@ impl OneCopy {
 
     /// What a reader sees of a key, if it was written.
     pub fn held(&self, key: &Key) -> Option<(Item, Token)>
-        ensures { result ≡ option_map shown (store_of self.now key.now) }
+        ensures { result ≡ option_map shown (one_copy_of self.now key.now) }
     {
         shown_at(&self.items, key)
     }

@@ -3,8 +3,8 @@ ghost use Rattle.std.specs.Prelude.{◌≡◌, ◌<◌, ◌≤◌, ◌+◌, leng
 ghost use Rattle.std.specs.List.{list_any};
 ghost use Rattle.mdcc_base.specs.Key.{key_eq};
 ghost use Rattle.mdcc_option.specs.declared.items.Part.{Part as APart};
-ghost use Rattle.mdcc_option.specs.Parts.{AreParts, are_ascending, with_part, sorted_parts, is_key_repeated};
-ghost use Rattle.mdcc_option.specs.Transaction.{transaction_of, parts_fault, choices_of, choice_of, write_set_of};
+ghost use Rattle.mdcc_option.specs.Parts.{AreParts, are_parts_ascending, with_part, sorted_parts, is_key_repeated};
+ghost use Rattle.mdcc_option.specs.Transaction.{transaction_of, parts_fault, choices_of, choice_of_part, write_set_of_parts};
 
 use crate::update::update_fault;
 use crate::{Choice, DraftFault, Part, Schema, WriteSet};
@@ -93,7 +93,7 @@ fn sorted(parts: &[Part]) -> BoundedList<Part, 8>
     ensures value { result ≡ sorted_parts parts.now }
     ensures count { length result ≡ length parts.now }
     ensures same { IsPermutation parts.now result }
-    ensures ascending { is_key_repeated parts.now ≡ false → IsTrue (are_ascending result) }
+    ensures ascending { is_key_repeated parts.now ≡ false → IsTrue (are_parts_ascending result) }
 {
     let mut sorted = BoundedList::new();
     for part in parts {
@@ -131,7 +131,7 @@ pub fn parts_fault(schema: &Schema, parts: &[Part]) -> Option<DraftFault>
 // All keys with their versions.
 fn write_set(parts: &[Part]) -> WriteSet
     requires { length parts.now ≤ 8 }
-    ensures { result ≡ write_set_of parts.now }
+    ensures { result ≡ write_set_of_parts parts.now }
 {
     let mut write_set = BoundedList::new();
     for part in parts {
@@ -154,7 +154,7 @@ fn choices(tx: TxId, parts: &[Part]) -> BoundedList<Choice, 8>
 }
 
 fn choice(tx: TxId, write_set: &WriteSet, part: &Part) -> Choice
-    ensures { result ≡ choice_of tx write_set.now part.now }
+    ensures { result ≡ choice_of_part tx write_set.now part.now }
 {
     Choice {
         tx,

@@ -2,9 +2,9 @@
 use Rattle.std.proofs.Common.{◌≡◌, ℕ, zero, suc, ◌-◌, ◌+◌, ◌≤◌, ◌<◌, List, [], ◌∷◌, ◌++◌, length, Option, Some, Result, Ok, Err, refl, sym, ap, ◌∙◌, append_assoc, arith}
 use Rattle.std.proofs.lemmas.List.{append-nil, length-append}
 use Rattle.mdcc_base.specs.Unless.{GivesUnless}
-use Rattle.mdcc_messages.specs.declared.wire.WireFault.{WireFault}
-use Rattle.mdcc_messages.specs.declared.wire.WireFault.TheVariants.{Truncated, Trailing, Kind, Range, NotCanonical, Memory}
-use Rattle.mdcc_messages.specs.ReadingSteps.{◌>>=◌, elements_at}
+use Rattle.mdcc_def_messages.specs.declared.wire.WireFault.{WireFault}
+use Rattle.mdcc_def_messages.specs.declared.wire.WireFault.TheVariants.{Truncated, Trailing, Kind, Range, NotCanonical, Memory}
+use Rattle.mdcc_def_messages.specs.ReadingSteps.{◌>>=◌, elements_at}
 use Rattle.mdcc_parts.specs.Reads.{end_of, name_and_end, is_wire_memory}
 
 -- what was read before, and what is still read

@@ -6,7 +6,7 @@ use Rattle.mdcc_base.specs.TxId.{tx_lt}
 use Rattle.mdcc_struct.specs.Maps.{TxMap, value_of, inserted, are_ascending}
 use Rattle.mdcc_struct.proofs.Order.{tx_lt-apart}
 use Rattle.mdcc_struct.proofs.Ordered.{IsBelow, ascending-below, ascending-tail}
-use Rattle.mdcc_messages.specs.ReadingSteps.{is_after}
+use Rattle.mdcc_def_messages.specs.ReadingSteps.{is_after}
 
 below-last : {X : Type 0} (t : TxId) (m : TxMap X) (e : TxId × X) → IsBelow t (m ++ e ∷ []) → tx_lt t e.0 ≡ true
 below-last t [] e h = h.0

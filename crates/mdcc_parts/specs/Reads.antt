@@ -2,10 +2,10 @@
 use Rattle.std.specs.Prelude.{ℕ, Bool, true, false, List, Result, Ok}
 use Rattle.mdcc_base.specs.declared.identifiers.TxId.{TxId}
 use Rattle.mdcc_option.specs.declared.choices.Choice.{Choice}
-use Rattle.mdcc_messages.specs.declared.wire.WireFault.{WireFault}
-use Rattle.mdcc_messages.specs.declared.wire.WireFault.TheVariants.{Truncated, Trailing, Kind, Range, NotCanonical, Memory}
-use Rattle.mdcc_messages.specs.ReadingSteps.{◌>>=◌, checked}
-use Rattle.mdcc_messages.specs.ReadingParts.{update_at, write_set_at, has_own}
+use Rattle.mdcc_def_messages.specs.declared.wire.WireFault.{WireFault}
+use Rattle.mdcc_def_messages.specs.declared.wire.WireFault.TheVariants.{Truncated, Trailing, Kind, Range, NotCanonical, Memory}
+use Rattle.mdcc_def_messages.specs.ReadingSteps.{◌>>=◌, checked}
+use Rattle.mdcc_def_messages.specs.ReadingParts.{update_at, write_set_at, has_own}
 
 -- the update and the write set of a choice whose transaction, key and version were read
 abbrev pub choice_behind_version : TxId → List ℕ → ℕ → List ℕ → ℕ → Result (Choice × ℕ) WireFault

@@ -3,9 +3,9 @@ ghost use Rattle.std.specs.Prelude.{◌≡◌, ◌≤◌, IsTrue, IfOk, None, na
 ghost use Rattle.mdcc_base.specs.Key.{key_eq, key_lt};
 ghost use Rattle.mdcc_base.specs.TxId.{tx_eq, tx_lt};
 ghost use Rattle.mdcc_option.specs.Equality.{written_eq};
-ghost use Rattle.mdcc_messages.specs.ReadingSteps.{checked, free, same, fault_unless_after, is_after, elements_at};
-ghost use Rattle.mdcc_messages.specs.ReadingParts.{written_behind, write_set_at, has_own, choice_checked, choice_at, choice_behind};
-ghost use Rattle.mdcc_messages.specs.WellFormedParts.{is_written};
+ghost use Rattle.mdcc_def_messages.specs.ReadingSteps.{checked, free, same, fault_unless_after, is_after, elements_at};
+ghost use Rattle.mdcc_def_messages.specs.ReadingParts.{written_behind, write_set_at, has_own, choice_checked, choice_at, choice_behind};
+ghost use Rattle.mdcc_def_messages.specs.WellFormedParts.{is_written};
 ghost use Rattle.mdcc_parts.specs.Reads.{choice_behind_version};
 
 use crate::identifiers::{
@@ -15,7 +15,7 @@ use crate::identifiers::{
 use crate::items::read_update;
 use crate::numbers::{u8_within, u64_at};
 use mdcc_base::{BoundedList, Key, TxId};
-use mdcc_messages::WireFault;
+use mdcc_def_messages::WireFault;
 use mdcc_option::{Choice, WriteSet};
 
 // A key behind the last one of the write set that begins at `part`, and its version.

@@ -1,9 +1,9 @@
 //! What messages and facts have in common, read from bytes.
 ghost use Rattle.std.specs.Prelude.{◌≡◌, ◌++◌, ◌∷◌, [], None, OnOk, IfErr};
 ghost use Rattle.mdcc_base.specs.Unless.{GivesUnless};
-ghost use Rattle.mdcc_messages.specs.ReadingSteps.{u64_at, checked, elements_at, list_at};
-ghost use Rattle.mdcc_messages.specs.ReadingParts.{delta_behind};
-ghost use Rattle.mdcc_messages.specs.Reading.{instance_at, at_least, heard_at, given_at};
+ghost use Rattle.mdcc_def_messages.specs.ReadingSteps.{u64_at, checked, elements_at, list_at};
+ghost use Rattle.mdcc_def_messages.specs.ReadingParts.{delta_behind};
+ghost use Rattle.mdcc_def_messages.specs.Reading.{instance_at, at_least, heard_at, sync_given_at};
 ghost use Rattle.mdcc_parts.specs.Reads.{end_of, is_wire_memory};
 
 use crate::identifiers::{read_key, read_tx};
@@ -11,7 +11,7 @@ use crate::items::{read_delta_behind, read_item};
 use crate::marks::read_outcome;
 use crate::numbers::{u8_within, u64_at};
 use mdcc_base::{HeapList, Key, TxId};
-use mdcc_messages::WireFault;
+use mdcc_def_messages::WireFault;
 use mdcc_option::{Delta, Item, Outcome};
 use std::alloc::Global;
 
@@ -83,7 +83,7 @@ fn deltas_from(
 
 /// The place behind what a centre holds of a key, at a place. No memory is taken.
 pub fn check_given(bytes: &[u8], at: usize) -> Result<usize, WireFault>
-    ensures { result ≡ end_of (given_at bytes.now at) }
+    ensures { result ≡ end_of (sync_given_at bytes.now at) }
 {
     let (_key, after) = read_key(bytes, at)?;
     let (_version, after) = read_at_least(1, bytes, after)?;
@@ -99,7 +99,7 @@ pub fn read_given(
     bytes: &[u8],
     at: usize,
 ) -> Result<((Key, u64, Item, HeapList<Delta>), usize), WireFault>
-    ensures { GivesUnless is_wire_memory result (given_at bytes.now at) }
+    ensures { GivesUnless is_wire_memory result (sync_given_at bytes.now at) }
 {
     let (key, after) = read_key(bytes, at)?;
     let (version, after) = read_at_least(1, bytes, after)?;

@@ -3,14 +3,14 @@ ghost use Rattle.std.specs.Prelude.{◌≡◌, ◌≤◌, ◌+◌, IsTrue, IfOk,
 ghost use Rattle.std.specs.List.{list_all};
 ghost use Rattle.mdcc_base.specs.Key.{is_key_byte, key_eq, key_lt};
 ghost use Rattle.mdcc_base.specs.TxId.{tx_eq, tx_lt};
-ghost use Rattle.mdcc_messages.specs.ReadingSteps.{u64_at, checked, same, fault_unless_after, is_after};
-ghost use Rattle.mdcc_messages.specs.ReadingParts.{key_by, key_at, tx_at, tx_behind, ballot_from, ballot_at, classic_at};
-ghost use Rattle.mdcc_messages.specs.Reading.{numbers_at};
+ghost use Rattle.mdcc_def_messages.specs.ReadingSteps.{u64_at, checked, same, fault_unless_after, is_after};
+ghost use Rattle.mdcc_def_messages.specs.ReadingParts.{key_by, key_at, tx_at, tx_behind, ballot_from, ballot_at, classic_at};
+ghost use Rattle.mdcc_def_messages.specs.Reading.{numbers_at};
 
 use crate::numbers::{run_at, truncated, u8_within, u32_within, u64_at};
 use mdcc_base::key::is_key_byte;
 use mdcc_base::{Ballot, Centre, Key, TxId};
-use mdcc_messages::WireFault;
+use mdcc_def_messages::WireFault;
 
 // Whether a key may have each of these bytes.
 fn are_key_bytes(bytes: &[u8]) -> bool

@@ -1,13 +1,13 @@
 //! Items, and what is done to them, read from bytes.
 ghost use Rattle.std.specs.Prelude.{◌≡◌, ◌≤◌, None, nat_lt, take, drop};
 ghost use Rattle.mdcc_base.specs.Key.{key_lt};
-ghost use Rattle.mdcc_messages.specs.ReadingSteps.{i64_at, checked, fault_unless_after, u8_within, elements_at};
-ghost use Rattle.mdcc_messages.specs.ReadingParts.{body_by, item_at, tx_behind, seen_at, not_zero, amount_behind, amounts_at, write_at, add_at, update_at, part_behind, delta_behind, delta_at};
+ghost use Rattle.mdcc_def_messages.specs.ReadingSteps.{i64_at, checked, fault_unless_after, u8_within, elements_at};
+ghost use Rattle.mdcc_def_messages.specs.ReadingParts.{body_by, item_at, tx_behind, seen_at, not_zero, amount_behind, amounts_at, write_at, add_at, update_at, part_behind, delta_behind, delta_at};
 
 use crate::identifiers::{read_key_behind, read_tx_behind};
 use crate::numbers::{i64_at, run_at, truncated, u8_within, u64_at};
 use mdcc_base::{BoundedList, Key, TxId};
-use mdcc_messages::WireFault;
+use mdcc_def_messages::WireFault;
 use mdcc_option::{Amounts, Body, Delta, Item, Part, Seen, Update, Values};
 
 // So many bytes at a place.

@@ -3,15 +3,15 @@ ghost use Rattle.std.specs.Prelude.{◌≡◌, ◌≤◌, ◌++◌, ◌∷◌, [
 ghost use Rattle.mdcc_base.specs.TxId.{tx_lt};
 ghost use Rattle.mdcc_base.specs.Unless.{GivesUnless};
 ghost use Rattle.mdcc_struct.specs.Maps.{are_ascending};
-ghost use Rattle.mdcc_messages.specs.ReadingSteps.{is_after, elements_at};
-ghost use Rattle.mdcc_messages.specs.ReadingParts.{reject_behind, accept_behind, entry_behind, entry_at, options_at, choice_behind, commit_at, outcome_at, classic_cause_at, limit_cause_at, cause_by, cause_at};
+ghost use Rattle.mdcc_def_messages.specs.ReadingSteps.{is_after, elements_at};
+ghost use Rattle.mdcc_def_messages.specs.ReadingParts.{reject_behind, accept_behind, entry_behind, mark_entry_at, options_at, choice_behind, commit_at, outcome_at, classic_cause_at, limit_cause_at, cause_by, cause_at};
 ghost use Rattle.mdcc_parts.specs.Reads.{end_of, name_and_end, is_wire_memory};
 
 use crate::choices::{read_choice_behind, read_mark_choice};
 use crate::identifiers::{read_classic, read_tx_behind};
 use crate::numbers::{u8_within, u32_at};
 use mdcc_base::{BoundedList, Key, TxId};
-use mdcc_messages::WireFault;
+use mdcc_def_messages::WireFault;
 use mdcc_option::{Cause, Choice, Mark, Outcome};
 use mdcc_struct::Options;
 use std::alloc::Global;
@@ -74,7 +74,7 @@ pub fn read_entry(
     key: &Key,
     version: u64,
 ) -> Result<((TxId, Mark), usize), WireFault>
-    ensures { result ≡ entry_at bytes.now at key.now version }
+    ensures { result ≡ mark_entry_at bytes.now at key.now version }
 {
     read_entry_behind(at, key, version, bytes, None, at)
 }

@@ -1,8 +1,8 @@
 //! Numbers, read from bytes.
 ghost use Rattle.std.specs.Prelude.{◌≡◌, length, take, drop};
-ghost use Rattle.mdcc_messages.specs.ReadingSteps.{u8_at, u32_at, u64_at, i64_at, u8_within, u32_within, flag_at};
+ghost use Rattle.mdcc_def_messages.specs.ReadingSteps.{u8_at, u32_at, u64_at, i64_at, u8_within, u32_within, flag_at};
 
-use mdcc_messages::WireFault;
+use mdcc_def_messages::WireFault;
 
 // The bytes end inside a part.
 pub(crate) fn truncated(bytes: &[u8]) -> WireFault

@@ -3,7 +3,7 @@ use Rattle.std.proofs.Common.{◌≡◌, inl, inr, ℕ, zero, suc, ◌+◌, ◌-
 use Rattle.std.proofs.Math.Seq.{drop-append-add}
 use Rattle.std.proofs.lemmas.Bool.{cases_lt}
 use Rattle.std.proofs.lemmas.List.{drop-append-le, drop-drop, drop-take, length-take-le, take-append-le, take-append-drop, take-take, take_all}
-use Rattle.mdcc_pool.specs.Chains.{bytes_of, filled, next_of, step, text, written, AreWhole}
+use Rattle.mdcc_pool.specs.Chains.{cell_bytes, cell_filled, next_cell, step, text, chain_written, AreWhole}
 use Rattle.mdcc_pool.specs.declared.cells.Cell.{Cell}
 use Rattle.mdcc_pool.proofs.Chains.{step_next}
 use Rattle.mdcc_pool.proofs.Pieces.{take-front, take-past}
@@ -67,33 +67,33 @@ text-length cells zero at whole within = refl
 text-length cells (suc n) at whole within =
     omega (
       arith,
-      length-append (bytes_of cells at) (text cells n (next_of cells at)),
+      length-append (cell_bytes cells at) (text cells n (next_cell cells at)),
       whole at (within zero (omega arith)),
-      text-length cells n (next_of cells at) whole (λ j l. within (suc j) (omega arith)),
+      text-length cells n (next_cell cells at) whole (λ j l. within (suc j) (omega arith)),
     )
 
 -- within a cell, the bytes of the chain are those of the cell
 pub text-piece : (cells : List Cell) (q n at within size : ℕ) → AreWhole cells → ((j : ℕ) → j ≤ q → step cells j at < length cells)
-    → q < n → within + size ≤ 60 → take size (drop (60 * q + within) (text cells n at)) ≡ take size (drop within (bytes_of cells (step cells q at)))
+    → q < n → within + size ≤ 60 → take size (drop (60 * q + within) (text cells n at)) ≡ take size (drop within (cell_bytes cells (step cells q at)))
 text-piece cells q zero at within size whole inside below fits = absurd (omega arith)
 text-piece cells zero (suc n) at within size whole inside below fits =
-    let long : length (bytes_of cells at) ≡ 60 = whole at (inside zero (omega arith)) in
+    let long : length (cell_bytes cells at) ≡ 60 = whole at (inside zero (omega arith)) in
     let none : 60 * 0 + within ≡ within = omega arith in
     ap (λ k. take size (drop k (text cells (suc n) at))) none
-    ∙ ap (take size) (drop-append-le within (bytes_of cells at) (text cells n (next_of cells at)) (omega arith))
-    ∙ take-append-le size (drop within (bytes_of cells at)) (text cells n (next_of cells at)) (omega (arith, length-drop within (bytes_of cells at)))
+    ∙ ap (take size) (drop-append-le within (cell_bytes cells at) (text cells n (next_cell cells at)) (omega arith))
+    ∙ take-append-le size (drop within (cell_bytes cells at)) (text cells n (next_cell cells at)) (omega (arith, length-drop within (cell_bytes cells at)))
 text-piece cells (suc q) (suc n) at within size whole inside below fits =
-    let long : length (bytes_of cells at) ≡ 60 = whole at (inside zero (omega arith)) in
-    ap (take size) (drop-past (60 * suc q + within) (60 * q + within) (bytes_of cells at) (text cells n (next_of cells at)) (omega arith))
-    ∙ text-piece cells q n (next_of cells at) within size whole (λ j l. inside (suc j) (omega arith)) (omega arith) fits
+    let long : length (cell_bytes cells at) ≡ 60 = whole at (inside zero (omega arith)) in
+    ap (take size) (drop-past (60 * suc q + within) (60 * q + within) (cell_bytes cells at) (text cells n (next_cell cells at)) (omega arith))
+    ∙ text-piece cells q n (next_cell cells at) within size whole (λ j l. inside (suc j) (omega arith)) (omega arith) fits
 
 -- ---- a step of writing
 
-pub write-next : (cells end : List Cell) (rest : List ℕ) (n i at : ℕ) → i < n → written cells rest (n - i) at ≡ end
-    → written (filled cells at rest) (drop 60 rest) (n - (i + 1)) (next_of cells at) ≡ end
+pub write-next : (cells end : List Cell) (rest : List ℕ) (n i at : ℕ) → i < n → chain_written cells rest (n - i) at ≡ end
+    → chain_written (cell_filled cells at rest) (drop 60 rest) (n - (i + 1)) (next_cell cells at) ≡ end
 write-next cells end rest n i at below is =
     let one : suc (n - (i + 1)) ≡ n - i = omega arith in
-    ap (λ k. written cells rest k at) one ∙ is
+    ap (λ k. chain_written cells rest k at) one ∙ is
 
 -- a chain is as long as its cells in the region are many
 text-long : (cells : List Cell) (q n at : ℕ) → AreWhole cells → ((j : ℕ) → j < q → step cells j at < length cells) → q ≤ n → 60 * q ≤ length (text cells n at)
@@ -102,9 +102,9 @@ text-long cells (suc q) zero at whole within few = absurd (omega arith)
 text-long cells (suc q) (suc n) at whole within few =
     omega (
       arith,
-      length-append (bytes_of cells at) (text cells n (next_of cells at)),
+      length-append (cell_bytes cells at) (text cells n (next_cell cells at)),
       whole at (within zero (omega arith)),
-      text-long cells q n (next_of cells at) whole (λ j l. within (suc j) (omega arith)) (omega arith),
+      text-long cells q n (next_cell cells at) whole (λ j l. within (suc j) (omega arith)) (omega arith),
     )
 
 -- one more piece of a chain is copied
@@ -112,7 +112,7 @@ pub copy-step : (cells : List Cell) (first offset count done size at : ℕ) (int
     → AreWhole cells → ((j : ℕ) → 60 * j < offset + count → step cells j first < length cells)
     → done < count → size ≡ min (60 - (offset + done) % 60) (count - done)
     → at ≡ step cells ((offset + done) / 60) first
-    → piece ≡ take size (drop ((offset + done) % 60) (bytes_of cells at))
+    → piece ≡ take size (drop ((offset + done) % 60) (cell_bytes cells at))
     → (n : ℕ) → offset + count ≤ 60 * n → into ≡ take done (drop offset (text cells n first)) ++ drop done initial
     → take done into ++ (piece ++ drop size (drop done into)) ≡ take (done + size) (drop offset (text cells n first)) ++ drop (done + size) initial
 copy-step cells first offset count done size at into piece initial whole within below size-is at-is piece-is n few into-is =
@@ -122,13 +122,13 @@ copy-step cells first offset count done size at into piece initial whole within 
     let split : p ≡ 60 * cell + place = omega arith in
     let long : 60 * ((p + 59) / 60) ≤ length (text cells n first) =
     text-long cells ((p + 59) / 60) n first whole (λ j l. within j (omega arith)) (omega arith) in
-    let found : take size (drop p (text cells n first)) ≡ take size (drop place (bytes_of cells (step cells cell first))) =
+    let found : take size (drop p (text cells n first)) ≡ take size (drop place (cell_bytes cells (step cells cell first))) =
     ap (λ k. take size (drop k (text cells n first))) split
     ∙ text-piece cells cell n first place size whole (λ j l. within j (omega arith)) (omega arith) (omega arith) in
     copy-piece into piece (drop offset (text cells n first)) initial done size into-is
     (omega (arith, length-drop offset (text cells n first)))
     (piece-is
-    ∙ ap (λ c. take size (drop place (bytes_of cells c))) at-is
+    ∙ ap (λ c. take size (drop place (cell_bytes cells c))) at-is
     ∙ sym found
     ∙ ap (take size) (sym (drop-drop done offset (text cells n first))))
 
@@ -138,7 +138,7 @@ copy-same cells p size first few differs =
     let same : (p + size) / 60 ≡ p / 60 = omega (arith, differs) in
     ap (λ k. step cells k first) same
 
-pub copy-onward : (cells : List Cell) (p size first : ℕ) → p % 60 + size ≡ 60 → step cells ((p + size) / 60) first ≡ next_of cells (step cells (p / 60) first)
+pub copy-onward : (cells : List Cell) (p size first : ℕ) → p % 60 + size ≡ 60 → step cells ((p + size) / 60) first ≡ next_cell cells (step cells (p / 60) first)
 copy-onward cells p size first ends =
     let more : (p + size) / 60 ≡ p / 60 + 1 = omega arith in
     ap (λ k. step cells k first) more ∙ step_next cells (p / 60) first

@@ -1,7 +1,7 @@
 -- Cells before their first use, and a pool of which all cells are spare.
 use Rattle.std.proofs.Common.{◌≡◌, ℕ, zero, suc, ◌+◌, ◌-◌, ◌^◌, ◌<◌, ◌≤◌, List, [], ◌∷◌, ◌++◌, Option, Some, None, length, get_or, set, replicate, refl, sym, ap, ◌∙◌, arith, append_assoc, length-append}
 use Rattle.std.proofs.lemmas.List.{get_or_append_left, length-replicate, length-set}
-use Rattle.mdcc_pool.specs.Chains.{extended, fresh, next_of, no_cell, step, unused}
+use Rattle.mdcc_pool.specs.Chains.{extended, fresh_cells, next_cell, no_cell, step, unused}
 use Rattle.mdcc_pool.specs.Pool.{cells_in, held_from, padded_to, AreKept}
 use Rattle.mdcc_pool.specs.declared.cells.Cell.{Cell}
 use Rattle.mdcc_pool.proofs.Chains.{step_next}
@@ -24,11 +24,11 @@ set-front (y ∷ xs) ys (suc i) x within = ap (λ t. y ∷ t) (set-front xs ys i
 
 -- ---- cells
 
-pub fresh-length : (at n : ℕ) → length (fresh at n) ≡ n
+pub fresh-length : (at n : ℕ) → length (fresh_cells at n) ≡ n
 fresh-length at zero = refl
 fresh-length at (suc n) = ap suc (fresh-length (at + 1) n)
 
-pub fresh-get : (at n i : ℕ) → i < n → get_or (fresh at n) i no_cell ≡ unused (at + i)
+pub fresh-get : (at n i : ℕ) → i < n → get_or (fresh_cells at n) i no_cell ≡ unused (at + i)
 fresh-get at zero i within = absurd (omega arith)
 fresh-get at (suc n) zero within =
     let none : at ≡ at + 0 = omega arith in
@@ -38,15 +38,15 @@ fresh-get at (suc n) (suc i) within =
     fresh-get (at + 1) n i (omega arith) ∙ ap unused more
 
 pub extended_length : (size : ℕ) (cells : List Cell) → length cells ≤ size → length (extended size cells) ≡ size
-extended_length size cells few = omega (arith, length-append cells (fresh (length cells) (size - length cells)), fresh-length (length cells) (size - length cells))
+extended_length size cells few = omega (arith, length-append cells (fresh_cells (length cells) (size - length cells)), fresh-length (length cells) (size - length cells))
 
 pub extended_used : (size : ℕ) (cells : List Cell) (at : ℕ) → at < length cells → get_or (extended size cells) at no_cell ≡ get_or cells at no_cell
-extended_used size cells at within = get_or_append_left cells (fresh (length cells) (size - length cells)) no_cell at within
+extended_used size cells at within = get_or_append_left cells (fresh_cells (length cells) (size - length cells)) no_cell at within
 
 pub extended_unused : (size : ℕ) (cells : List Cell) (at : ℕ) → length cells ≤ at → at < size → get_or (extended size cells) at no_cell ≡ unused at
 extended_unused size cells at past within =
     let sum : length cells + (at - length cells) ≡ at = omega arith in
-    append-past cells (fresh (length cells) (size - length cells)) at no_cell past
+    append-past cells (fresh_cells (length cells) (size - length cells)) at no_cell past
     ∙ fresh-get (length cells) (size - length cells) (at - length cells) (omega arith)
     ∙ ap unused sum
 
@@ -55,14 +55,14 @@ pub extended_more : (size : ℕ) (cells : List Cell) → length cells < size →
 extended_more size cells few =
     let one : length (cells ++ unused (length cells) ∷ []) ≡ length cells + 1 = omega (arith, length-append cells (unused (length cells) ∷ [])) in
     let left : size - length cells ≡ suc (size - (length cells + 1)) = omega arith in
-    ap (λ k. (cells ++ unused (length cells) ∷ []) ++ fresh k (size - k)) one
-    ∙ append_assoc cells (unused (length cells) ∷ []) (fresh (length cells + 1) (size - (length cells + 1)))
-    ∙ ap (λ k. cells ++ fresh (length cells) k) (sym left)
+    ap (λ k. (cells ++ unused (length cells) ∷ []) ++ fresh_cells k (size - k)) one
+    ∙ append_assoc cells (unused (length cells) ∷ []) (fresh_cells (length cells + 1) (size - (length cells + 1)))
+    ∙ ap (λ k. cells ++ fresh_cells (length cells) k) (sym left)
 
 pub extended_set : (size : ℕ) (cells : List Cell) (at : ℕ) (cell : Cell) → at < length cells → extended size (set cells at cell) ≡ set (extended size cells) at cell
 extended_set size cells at cell within =
-    ap (λ k. set cells at cell ++ fresh k (size - k)) (length-set cells at cell)
-    ∙ set-front cells (fresh (length cells) (size - length cells)) at cell within
+    ap (λ k. set cells at cell ++ fresh_cells k (size - k)) (length-set cells at cell)
+    ∙ set-front cells (fresh_cells (length cells) (size - length cells)) at cell within
 
 -- ---- lengths
 
@@ -99,14 +99,14 @@ lens_set size lens at len within =
 
 -- ---- a fresh pool
 
-fresh-step : (n j : ℕ) → j < n → step (fresh 0 n) j 0 ≡ j
+fresh-step : (n j : ℕ) → j < n → step (fresh_cells 0 n) j 0 ≡ j
 fresh-step n zero within = refl
 fresh-step n (suc j) within =
     let one : suc j ≡ j + 1 = omega arith in
     let none : 0 + j ≡ j = omega arith in
-    ap (λ k. step (fresh 0 n) k 0) one
-    ∙ step_next (fresh 0 n) j 0
-    ∙ ap (next_of (fresh 0 n)) (fresh-step n j (omega arith))
+    ap (λ k. step (fresh_cells 0 n) k 0) one
+    ∙ step_next (fresh_cells 0 n) j 0
+    ∙ ap (next_cell (fresh_cells 0 n)) (fresh-step n j (omega arith))
     ∙ ap (λ c. c.next) (fresh-get 0 n j (omega arith)) ∙ ap (λ k. k + 1) none ∙ sym one
 
 none-in : (n : ℕ) → cells_in (replicate n None) ≡ 0
@@ -117,7 +117,7 @@ pub none-held : (cells : List Cell) (at n : ℕ) → held_from cells at (replica
 none-held cells at zero = refl
 none-held cells at (suc n) = ap (λ t. None ∷ t) (none-held cells (at + 1) n)
 
-pub kept-fresh : (n : ℕ) → n < 2 ^ 32 → AreKept (fresh 0 n) (replicate n None) 0 n
+pub kept-fresh : (n : ℕ) → n < 2 ^ 32 → AreKept (fresh_cells 0 n) (replicate n None) 0 n
 kept-fresh n small = record {
   alike = length-replicate n no_length ∙ sym (fresh-length 0 n);
   whole = λ c within. ap (λ x. length x.bytes) (fresh-get 0 n c (omega (arith, fresh-length 0 n)));

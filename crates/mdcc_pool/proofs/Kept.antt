@@ -4,9 +4,9 @@ use Rattle.std.specs.Prelude.{IsSome, if◌then◌else◌, nat_lt, nat_eq}
 use Rattle.std.proofs.lemmas.Bool.{cases_eq, cases_lt, le-ltb, lt-ltb, ne_eqb}
 use Rattle.std.proofs.lemmas.Bool.Decides.{eqb_tells}
 use Rattle.std.proofs.lemmas.List.{get_or-set_same, get_or-set_other, length-set, length-take}
-use Rattle.mdcc_pool.specs.Chains.{bytes_of, next_of, no_cell, step, text, written}
+use Rattle.mdcc_pool.specs.Chains.{cell_bytes, chain_written, next_cell, no_cell, step, text}
 use Rattle.mdcc_pool.specs.Sizes.{cells_for}
-use Rattle.mdcc_pool.specs.Held.{cells_held}
+use Rattle.mdcc_pool.specs.Held.{cells_in_use}
 use Rattle.mdcc_pool.specs.Pool.{cells_in, held_from, record_at, AreKept, AreLabelled}
 use Rattle.mdcc_pool.specs.declared.cells.Cell.{Cell}
 use Rattle.mdcc_pool.proofs.Chains.{step_next, step-add, step-alike, step-same, text-alike, written-length, written-next, written-other, written-text}
@@ -46,7 +46,7 @@ module _ (cells : List Cell) (lens : List (Option ℕ)) (free spare : ℕ) (kept
   n = cells_for (length bytes)
 
   abbrev new : List Cell
-  new = written cells bytes n free
+  new = chain_written cells bytes n free
 
   abbrev label : ℕ → ℕ × ℕ
   label c = taken n free (kept.label c).0 (kept.label c).1
@@ -164,7 +164,7 @@ joined n first zero place = (0, n + place)
 joined n first (suc chain) place = if nat_eq chain first then (0, place) else (suc chain, place)
 
 module _ (cells : List Cell) (lens : List (Option ℕ)) (free spare : ℕ) (kept : AreKept cells lens free spare) (first len last : ℕ) (bytes : List ℕ)
-    (is : get_or lens first None ≡ Some len) (last-is : last ≡ step cells (cells_for len - 1) first) (bytes-are : bytes ≡ bytes_of cells last) where
+    (is : get_or lens first None ≡ Some len) (last-is : last ≡ step cells (cells_for len - 1) first) (bytes-are : bytes ≡ cell_bytes cells last) where
   abbrev m : ℕ
   m = cells_for len
 
@@ -197,17 +197,17 @@ module _ (cells : List Cell) (lens : List (Option ℕ)) (free spare : ℕ) (kept
   cell-other : (c : ℕ) → c ≢ last → get_or freed c no_cell ≡ get_or cells c no_cell
   cell-other c differs = get_or-set_other cells last c _ no_cell differs
 
-  next-other : (c : ℕ) → c ≢ last → next_of freed c ≡ next_of cells c
+  next-other : (c : ℕ) → c ≢ last → next_cell freed c ≡ next_cell cells c
   next-other c differs = ap (λ x. x.next) (cell-other c differs)
 
-  next-last : next_of freed last ≡ free
+  next-last : next_cell freed last ≡ free
   next-last = ap (λ x. x.next) (get_or-set_same cells last _ no_cell last-own.0)
 
-  bytes-same : (c : ℕ) → bytes_of freed c ≡ bytes_of cells c
+  bytes-same : (c : ℕ) → cell_bytes freed c ≡ cell_bytes cells c
   bytes-same c =
       elim (cases_eq c last) [
         | inl same ↦
-            ap (bytes_of freed) same ∙ ap (λ x. x.bytes) (get_or-set_same cells last _ no_cell last-own.0) ∙ bytes-are ∙ ap (bytes_of cells) (sym same)
+            ap (cell_bytes freed) same ∙ ap (λ x. x.bytes) (get_or-set_same cells last _ no_cell last-own.0) ∙ bytes-are ∙ ap (cell_bytes cells) (sym same)
         | inr differs ↦ ap (λ x. x.bytes) (cell-other c differs)
       ]
 
@@ -226,7 +226,7 @@ module _ (cells : List Cell) (lens : List (Option ℕ)) (free spare : ℕ) (kept
   through =
       let one : m ≡ (m - 1) + 1 = omega (arith, some) in
       ap (λ k. step freed k first) one ∙ step_next freed (m - 1) first
-      ∙ ap (next_of freed) (own-steps (m - 1) (omega arith) ∙ sym last-is) ∙ next-last
+      ∙ ap (next_cell freed) (own-steps (m - 1) (omega arith) ∙ sym last-is) ∙ next-last
 
   spare-joined : AreLabelled freed label-freed 0 (spare + m) first
   spare-joined j l =
@@ -344,7 +344,7 @@ record-length cells lens free spare kept first len is =
 -- ---- the sum of all
 
 held-count : (cells : List Cell) (at : ℕ) (lens : List (Option ℕ)) → ((i len : ℕ) → get_or lens i None ≡ Some len → length (record_at cells (at + i) len) ≡ len)
-    → cells_held (held_from cells at lens) ≡ cells_in lens
+    → cells_in_use (held_from cells at lens) ≡ cells_in lens
 held-count cells at [] long = refl
 held-count cells at (None ∷ lens) long =
     held-count cells (at + 1) lens (λ i len is.
@@ -362,7 +362,7 @@ held-count cells at (Some l ∷ lens) long =
     )
 
 pub held-sum : (cells : List Cell) (lens : List (Option ℕ)) (free spare : ℕ) → AreKept cells lens free spare
-    → spare + cells_held (held_from cells 0 lens) ≡ length (held_from cells 0 lens)
+    → spare + cells_in_use (held_from cells 0 lens) ≡ length (held_from cells 0 lens)
 held-sum cells lens free spare kept =
     omega (
       arith,

@@ -4,8 +4,8 @@ use Rattle.std.specs.Prelude.{min}
 use Rattle.std.specs.Int.{div_ceil}
 use Rattle.std.proofs.lemmas.Bool.{cases_lt}
 use Rattle.std.proofs.lemmas.List.{drop-drop, drop-take, length-take, take-take}
-use Rattle.mdcc_pool.specs.Chains.{bytes_of, next_of, step, text}
-use Rattle.mdcc_pool.specs.Reading.{left_of, IsReading}
+use Rattle.mdcc_pool.specs.Chains.{cell_bytes, next_cell, step, text}
+use Rattle.mdcc_pool.specs.Reading.{bytes_left_of, IsReading}
 use Rattle.mdcc_pool.specs.Pool.{record_at, AreKept}
 use Rattle.mdcc_pool.specs.Sizes.{cells_for}
 use Rattle.mdcc_pool.specs.declared.cells.Cell.{Cell}
@@ -30,10 +30,10 @@ text-add cells zero b at =
 text-add cells (suc a) b at =
     let one : suc a + b ≡ suc (a + b) = omega arith in
     ap (λ k. text cells k at) one
-    ∙ ap (λ t. bytes_of cells at ++ t) (text-add cells a b (next_of cells at))
-    ∙ sym (append_assoc (bytes_of cells at) (text cells a (next_of cells at)) (text cells b (step cells a (next_of cells at))))
+    ∙ ap (λ t. cell_bytes cells at ++ t) (text-add cells a b (next_cell cells at))
+    ∙ sym (append_assoc (cell_bytes cells at) (text cells a (next_cell cells at)) (text cells b (step cells a (next_cell cells at))))
 
-pub left_length : (cells : List Cell) (at within left : ℕ) → IsReading cells at within left → length (left_of cells at within left) ≡ left
+pub left_length : (cells : List Cell) (at within left : ℕ) → IsReading cells at within left → length (bytes_left_of cells at within left) ≡ left
 left_length cells at within left reading =
     let n : ℕ = div_ceil (within + left) 60 in
     omega (
@@ -44,7 +44,7 @@ left_length cells at within left reading =
     )
 
 pub left_take : (cells : List Cell) (at within left count : ℕ) → count ≤ left
-    → take count (drop within (text cells (div_ceil (within + left) 60) at)) ≡ take count (left_of cells at within left)
+    → take count (drop within (text cells (div_ceil (within + left) 60) at)) ≡ take count (bytes_left_of cells at within left)
 left_take cells at within left count few = sym (take-take count left (drop within (text cells (div_ceil (within + left) 60) at)) few)
 
 module _ (cells : List Cell) (at within left passed : ℕ) (reading : IsReading cells at within left) (few : passed ≤ left) where
@@ -61,7 +61,7 @@ module _ (cells : List Cell) (at within left passed : ℕ) (reading : IsReading 
     there = λ j l. omega (arith, step-add cells q j at, reading.there (q + j) (omega arith));
   }
 
-  pub left_on : left_of cells (step cells q at) r (left - passed) ≡ drop passed (left_of cells at within left)
+  pub left_on : bytes_left_of cells (step cells q at) r (left - passed) ≡ drop passed (bytes_left_of cells at within left)
   left_on =
       let n : ℕ = div_ceil (within + left) 60 in
       let m : ℕ = div_ceil (r + (left - passed)) 60 in
@@ -78,7 +78,7 @@ module _ (cells : List Cell) (at within left passed : ℕ) (reading : IsReading 
 
 -- ---- a record is read from its first byte on
 
-pub record_left : (cells : List Cell) (at len : ℕ) → record_at cells at len ≡ left_of cells at 0 len
+pub record_left : (cells : List Cell) (at len : ℕ) → record_at cells at len ≡ bytes_left_of cells at 0 len
 record_left cells at zero = refl
 record_left cells at (suc len) =
     let same : cells_for (suc len) ≡ div_ceil (0 + suc len) 60 = omega arith in

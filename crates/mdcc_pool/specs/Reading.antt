@@ -5,8 +5,8 @@ use Rattle.mdcc_pool.specs.Chains.{step, text, AreWhole}
 use Rattle.mdcc_pool.specs.declared.cells.Cell.{Cell}
 
 -- so many bytes, from an offset in a cell on
-abbrev pub left_of : List Cell → ℕ → ℕ → ℕ → List ℕ
-left_of cells at within left = take left (drop within (text cells (div_ceil (within + left) 60) at))
+abbrev pub bytes_left_of : List Cell → ℕ → ℕ → ℕ → List ℕ
+bytes_left_of cells at within left = take left (drop within (text cells (div_ceil (within + left) 60) at))
 
 -- the cells of these bytes are there
 pub record IsReading (cells : List Cell) (at within left : ℕ) : Type 0 where

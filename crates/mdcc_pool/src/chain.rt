@@ -1,6 +1,6 @@
 //! Chains of cells, and the bytes along them.
 ghost use Rattle.std.specs.Prelude.{◌≡◌, ◌≤◌, ◌<◌, ◌+◌, ◌*◌, ◌++◌, ◌^◌, length, take, drop, ℕ};
-ghost use Rattle.mdcc_pool.specs.Chains.{step, text, written, AreWhole};
+ghost use Rattle.mdcc_pool.specs.Chains.{step, text, chain_written, AreWhole};
 ghost use Rattle.mdcc_pool.specs.Sizes.{cells_for};
 
 use crate::cells::{WIDTH, cells_for};
@@ -23,7 +23,7 @@ pub(crate) fn step(cells: &Region, first: u32, steps: usize) -> u32
 #[tactic(auto, using(crate::proofs::Chains::step_next))]
 pub(crate) fn write(cells: &mut Region, first: u32, bytes: &[u8]) -> u32
     requires { (j : ℕ) → j < cells_for (length bytes.now) → step cells.old j first < length cells.old }
-    ensures cells { cells.new ≡ written cells.old bytes.now (cells_for (length bytes.now)) first }
+    ensures cells { cells.new ≡ chain_written cells.old bytes.now (cells_for (length bytes.now)) first }
     ensures after { result ≡ step cells.old (cells_for (length bytes.now)) first }
 {
     let mut at = first;

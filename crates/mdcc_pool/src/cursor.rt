@@ -20,9 +20,9 @@ impl<'a> Model for Cursor<'a> {
 
     ghost Value = { List ℕ };
 
-    ghost use Rattle.mdcc_pool.specs.Reading.{left_of, IsReading};
+    ghost use Rattle.mdcc_pool.specs.Reading.{bytes_left_of, IsReading};
 
-    ghost view = { λ c. left_of c.cells.now c.at c.within c.left };
+    ghost view = { λ c. bytes_left_of c.cells.now c.at c.within c.left };
 
     ghost invariant = { λ c. IsReading c.cells.now c.at c.within c.left };
 }

@@ -1,7 +1,7 @@
 //! Bytes under tickets.
 ghost use Rattle.std.specs.Prelude.{◌≡◌, ◌≤◌, ◌<◌, ◌+◌, ◌-◌, ◌++◌, ◌↔◌, None, Some, IsSome, IfSome, IsOk, IfOk, OnOk, OnErr, is_some, length, take, drop, set, replicate, min};
 ghost use Rattle.mdcc_pool.specs.Sizes.{cells_for};
-ghost use Rattle.mdcc_pool.specs.Held.{cells_held, held_at};
+ghost use Rattle.mdcc_pool.specs.Held.{bytes_held_at, cells_in_use};
 
 use crate::cells::{Cell, cells_for};
 use crate::chain::{step, write};
@@ -33,10 +33,10 @@ pub struct CellPool {
 }
 
 impl Model for CellPool {
-    ghost use Rattle.mdcc_pool.specs.Held.{Held};
+    ghost use Rattle.mdcc_pool.specs.Held.{HeldCells};
     ghost use Rattle.mdcc_pool.specs.Pool.{AreKept, held_from};
 
-    ghost Value = { Held };
+    ghost Value = { HeldCells };
 
     ghost view = { λ p. record { spare = p.spare; held = held_from p.cells 0 p.lens } };
 
@@ -67,14 +67,14 @@ impl CellPool {
     /// How many cells are spare.
     pub fn spare(&self) -> u32
         ensures value { result ≡ self.now.spare }
-        ensures sum { result + cells_held self.now.held ≡ length self.now.held }
+        ensures sum { result + cells_in_use self.now.held ≡ length self.now.held }
     {
         self.spare
     }
 
     /// Whether bytes are held under a ticket.
     pub fn holds(&self, ticket: &Ticket) -> bool
-        ensures { result ≡ is_some (held_at self.now ticket.now.first) }
+        ensures { result ≡ is_some (bytes_held_at self.now ticket.now.first) }
     {
         self.lens.get(ticket.first).is_some()
     }
@@ -83,7 +83,7 @@ impl CellPool {
     /// least one.
     pub fn put(&mut self, bytes: &[u8]) -> Result<Ticket, PoolFull>
         ensures exact { IsOk result ↔ (cells_for (length bytes.now) ≤ self.old.spare) }
-        ensures unused { IfOk result (λ ticket. held_at self.old ticket.first ≡ None) }
+        ensures unused { IfOk result (λ ticket. bytes_held_at self.old ticket.first ≡ None) }
         ensures within { IfOk result (λ ticket. ticket.first < length self.old.held) }
         ensures held { IfOk result (λ ticket. self.new.held ≡ set self.old.held ticket.first (Some bytes.now)) }
         ensures used { OnOk result (self.new.spare + cells_for (length bytes.now) ≡ self.old.spare) }
@@ -102,8 +102,8 @@ impl CellPool {
 
     /// A cursor at the first of the bytes under a ticket.
     pub fn start(&self, ticket: &Ticket) -> Cursor<'_>
-        requires { IsSome (held_at self.now ticket.now.first) }
-        ensures { held_at self.now ticket.now.first ≡ Some result }
+        requires { IsSome (bytes_held_at self.now ticket.now.first) }
+        ensures { bytes_held_at self.now ticket.now.first ≡ Some result }
     {
         Cursor {
             cells: &self.cells,
@@ -116,9 +116,9 @@ impl CellPool {
     /// Copies the bytes that are held under a ticket, from an offset on, as many as there are and as
     /// there is room for, and gives their number.
     pub fn read(&self, ticket: &Ticket, offset: usize, into: &mut [u8]) -> usize
-        requires { IsSome (held_at self.now ticket.now.first) }
-        ensures count { IfSome (held_at self.now ticket.now.first) (λ bytes. result ≡ min (length bytes - offset) (length into.old)) }
-        ensures bytes { IfSome (held_at self.now ticket.now.first) (λ bytes. into.new ≡ take result (drop offset bytes) ++ drop result into.old) }
+        requires { IsSome (bytes_held_at self.now ticket.now.first) }
+        ensures count { IfSome (bytes_held_at self.now ticket.now.first) (λ bytes. result ≡ min (length bytes - offset) (length into.old)) }
+        ensures bytes { IfSome (bytes_held_at self.now ticket.now.first) (λ bytes. into.new ≡ take result (drop offset bytes) ++ drop result into.old) }
     {
         let mut cursor = self.start(ticket);
         cursor.skip(offset);
@@ -127,9 +127,9 @@ impl CellPool {
 
     /// Holds nothing under a ticket any more, so that its cells are spare.
     pub fn free(&mut self, ticket: Ticket)
-        requires { IsSome (held_at self.old ticket.first) }
+        requires { IsSome (bytes_held_at self.old ticket.first) }
         ensures held { self.new.held ≡ set self.old.held ticket.first None }
-        ensures spare { IfSome (held_at self.old ticket.first) (λ bytes. self.new.spare ≡ self.old.spare + cells_for (length bytes)) }
+        ensures spare { IfSome (bytes_held_at self.old ticket.first) (λ bytes. self.new.spare ≡ self.old.spare + cells_for (length bytes)) }
     {
         let count = cells_for(self.lens.at(ticket.first));
         let last = step(&self.cells, ticket.first, count - 1);

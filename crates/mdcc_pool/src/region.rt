@@ -1,6 +1,6 @@
 //! One region of cells, whose memory is written when a cell is first used.
 ghost use Rattle.std.specs.Prelude.{◌≡◌, ◌<◌, ◌≤◌, IfOk, length, get_or, set};
-ghost use Rattle.mdcc_pool.specs.Chains.{fresh, next_of, no_cell, padded};
+ghost use Rattle.mdcc_pool.specs.Chains.{fresh_cells, next_cell, no_cell, padded};
 
 use crate::cells::{Cell, padded, unused};
 use mdcc_base::Memory;
@@ -32,7 +32,7 @@ impl Model for Region {
 impl Region {
     /// So many cells, each of which leads to the one after it.
     pub(crate) fn new(alloc: Global, size: u32) -> Result<Region, Memory>
-        ensures { IfOk result (λ region. region ≡ fresh 0 size) }
+        ensures { IfOk result (λ region. region ≡ fresh_cells 0 size) }
     {
         Ok(Region {
             cells: Vec::with_capacity(alloc, size as usize)?,
@@ -73,8 +73,8 @@ impl Region {
     pub(crate) fn fill(&mut self, at: u32, bytes: &[u8]) -> u32
         requires cell { at < length self.old }
         requires few { length bytes.now ≤ 60 }
-        ensures cells { self.new ≡ set self.old at (record { next = next_of self.old at; bytes = padded bytes.now }) }
-        ensures after { result ≡ next_of self.old at }
+        ensures cells { self.new ≡ set self.old at (record { next = next_cell self.old at; bytes = padded bytes.now }) }
+        ensures after { result ≡ next_cell self.old at }
     {
         let next = self.cell(at).next;
         self.set(

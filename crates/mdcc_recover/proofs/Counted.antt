@@ -9,8 +9,8 @@ use Rattle.std.proofs.lemmas.List.Sums.{fold_more}
 use Rattle.mdcc_base.specs.TxId.{tx_eq}
 use Rattle.mdcc_base.specs.declared.identifiers.TxId.{TxId}
 use Rattle.mdcc_base.specs.declared.key.Key.{Key}
-use Rattle.mdcc_protocol.specs.Recover.{counted_tick}
-use Rattle.mdcc_protocol.specs.Volatile.{next_count, with_counter}
+use Rattle.mdcc_def_protocol.specs.Recover.{counted_tick}
+use Rattle.mdcc_def_protocol.specs.Volatile.{next_count, with_counter}
 use Rattle.mdcc_recover.specs.Counters.{AreCounters, Counters, counter_in}
 use Rattle.mdcc_struct.proofs.Order.{tx_eq-same}
 use Rattle.mdcc_struct.proofs.Values.{value_of-with_entry}

@@ -1,7 +1,7 @@
 -- Which state of the protocol a recovery stands for.
 use Rattle.mdcc_base.specs.Sizes.{Sizes}
+use Rattle.mdcc_def_protocol.specs.Volatile.{Recovering}
 use Rattle.mdcc_learner.specs.Represents.{RepresentsVotes}
-use Rattle.mdcc_protocol.specs.Volatile.{Recovering}
 use Rattle.mdcc_recover.specs.Counters.{AreCounters}
 use Rattle.mdcc_recover.specs.declared.recover.Recover.{Recover}
 

@@ -3,8 +3,8 @@ ghost use Rattle.std.specs.Prelude.{◌≡◌, OnOk, fold, if◌then◌else◌, 
 ghost use Rattle.std.specs.List.{list_all};
 ghost use Rattle.mdcc_base.specs.TxId.{tx_eq};
 ghost use Rattle.mdcc_base.specs.declared.identifiers.TxId.{TxId as ATxId};
-ghost use Rattle.mdcc_protocol.specs.Recover.{counted_tick};
-ghost use Rattle.mdcc_protocol.specs.Volatile.{next_count};
+ghost use Rattle.mdcc_def_protocol.specs.Recover.{counted_tick};
+ghost use Rattle.mdcc_def_protocol.specs.Volatile.{next_count};
 ghost use Rattle.mdcc_recover.specs.Counters.{AreCounters, counter_in, is_kept};
 ghost use Rattle.mdcc_struct.specs.Maps.{TxMap};
 

@@ -1,8 +1,8 @@
 //! Which transactions are dangling: not resolved, and not open here.
 ghost use Rattle.std.specs.Prelude.{◌≡◌, IfOk, List};
-ghost use Rattle.mdcc_messages.specs.declared.facts.Fact.{Fact as AFact};
-ghost use Rattle.mdcc_protocol.specs.Fit.{has_tx};
-ghost use Rattle.mdcc_protocol.specs.Recover.{dangling};
+ghost use Rattle.mdcc_def_messages.specs.declared.facts.Fact.{Fact as AFact};
+ghost use Rattle.mdcc_def_protocol.specs.Fit.{has_tx};
+ghost use Rattle.mdcc_def_protocol.specs.Recover.{dangling};
 
 use mdcc_base::{Memory, TxId};
 use mdcc_facts::FactStore;

@@ -6,5 +6,5 @@ mod dangling;
 mod marks;
 pub mod recover;
 
-pub use mdcc_protocol::{RecoverAct, Vote};
+pub use mdcc_def_protocol::{RecoverAct, Vote};
 pub use recover::Recover;

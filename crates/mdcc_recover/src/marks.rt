@@ -1,13 +1,13 @@
 //! What the votes on a dangling transaction decide.
 ghost use Rattle.std.specs.Prelude.{◌≡◌, ◌≤◌, List, length, map};
 ghost use Rattle.mdcc_learner.specs.Represents.{RepresentsVotes};
-ghost use Rattle.mdcc_protocol.specs.Learner.{decision_of, learned, with_vote};
-ghost use Rattle.mdcc_protocol.specs.declared.votes.Vote.{Vote as AVote};
+ghost use Rattle.mdcc_def_protocol.specs.Learner.{decision_of, learned, with_counted_vote};
+ghost use Rattle.mdcc_def_protocol.specs.declared.votes.Vote.{Vote as AVote};
 
 use mdcc_base::{BoundedList, Key, Quorums};
+use mdcc_def_protocol::Vote;
 use mdcc_learner::{LearnedMarks, Learner, outcome_of_marks};
 use mdcc_option::Outcome;
-use mdcc_protocol::Vote;
 
 // The marks that are learned of a vote's transaction once the vote is taken.
 fn marks_with(
@@ -18,7 +18,7 @@ fn marks_with(
 ) -> LearnedMarks
     requires { length write_set.now ≤ 8 }
     ensures { (votes : List AVote) → RepresentsVotes learner.now quorums.now votes
-        → result ≡ map (learned quorums.now (with_vote quorums.now votes vote.now) vote.now.tx) (map (λ e. e.0) write_set.now) }
+        → result ≡ map (learned quorums.now (with_counted_vote quorums.now votes vote.now) vote.now.tx) (map (λ e. e.0) write_set.now) }
 {
     let mut marks = BoundedList::new();
     for entry in write_set {
@@ -36,7 +36,7 @@ pub(crate) fn decision_with(
 ) -> Option<Outcome>
     requires { length write_set.now ≤ 8 }
     ensures { (votes : List AVote) → RepresentsVotes learner.now quorums.now votes
-        → result ≡ decision_of quorums.now (with_vote quorums.now votes vote.now) vote.now.tx (map (λ e. e.0) write_set.now) }
+        → result ≡ decision_of quorums.now (with_counted_vote quorums.now votes vote.now) vote.now.tx (map (λ e. e.0) write_set.now) }
 {
     let marks = marks_with(learner, quorums, vote, write_set);
     outcome_of_marks(marks.as_slice())

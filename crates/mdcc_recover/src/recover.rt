@@ -2,10 +2,10 @@
 ghost use Rattle.std.specs.Prelude.{◌≡◌, ◌≤◌, ◌++◌, IfOk, IsOkAnd, List, OnErr, OnOk, flat_map, length, map, option_map, ℕ};
 ghost use Rattle.mdcc_base.specs.AreQuorums.{AreQuorums};
 ghost use Rattle.mdcc_base.specs.Sizes.{Sizes};
-ghost use Rattle.mdcc_messages.specs.declared.facts.Fact.{Fact as AFact};
-ghost use Rattle.mdcc_protocol.specs.Learner.{decision_of};
-ghost use Rattle.mdcc_protocol.specs.Recover.{acts_on, ask_of, claim_of_key, keys_led, keys_watched, on_voted, tick, watched_vote, would_decide};
-ghost use Rattle.mdcc_protocol.specs.Volatile.{Recovering, counter_of, is_watched, initial_volatile, recovery_closed};
+ghost use Rattle.mdcc_def_messages.specs.declared.facts.Fact.{Fact as AFact};
+ghost use Rattle.mdcc_def_protocol.specs.Learner.{decision_of};
+ghost use Rattle.mdcc_def_protocol.specs.Recover.{acts_on, ask_of, claim_of_key, keys_led, keys_watched, on_voted, tick, watched_vote, would_decide};
+ghost use Rattle.mdcc_def_protocol.specs.Volatile.{Recovering, counter_of, is_watched, initial_volatile, recovery_closed};
 ghost use Rattle.mdcc_recover.specs.Represents.{RepresentsRecovering};
 
 use crate::counters::{Counters, count_tick, counter_in, forget, keep_counters, next_count};
@@ -13,10 +13,10 @@ use crate::dangling::dangling;
 use crate::marks::decision_with;
 use indexmap::IndexMap;
 use mdcc_base::{Key, Memory, Quorums, TxId};
+use mdcc_def_protocol::{RecoverAct, Vote};
 use mdcc_facts::FactStore;
 use mdcc_learner::Learner;
 use mdcc_option::{Claim, Cluster, Outcome, WriteSet};
-use mdcc_protocol::{RecoverAct, Vote};
 use std::alloc::Global;
 
 /// How many ticks each dangling transaction has seen, and the votes that count on those that are

@@ -1,9 +1,9 @@
 //! What is done about a transaction whose manager is silent.
 use crate::values::{choice, cluster, key, tx, vote, voted};
 use mdcc_base::{Key, TxId};
-use mdcc_list_facts::ListFacts;
+use mdcc_def_protocol::{RecoverAct, Vote};
+use mdcc_facts_listed::ListFacts;
 use mdcc_option::{Claim, Mark, Outcome};
-use mdcc_protocol::{RecoverAct, Vote};
 use mdcc_recover::Recover;
 use std::process::Abort;
 use std::test::Fail;

@@ -1,10 +1,10 @@
 //! Values of worked schedules: a transaction of centre 1 that inserts the keys a and b, and centres
 //! that voted on it.
 use mdcc_base::{Ballot, BoundedList, Centre, Key, Quorums, TxId};
+use mdcc_def_protocol::Vote;
 use mdcc_facts::Fact;
-use mdcc_list_facts::ListFacts;
+use mdcc_facts_listed::ListFacts;
 use mdcc_option::{Choice, Cluster, FastLimit, Item, Mark, Schema, Update};
-use mdcc_protocol::Vote;
 use mdcc_struct::Options;
 use mdcc_tests::adding::put;
 use std::alloc::Global;

@@ -1,9 +1,9 @@
 -- What a world stands for behind an event.
 use Rattle.std.proofs.Common.{◌≡◌, ◌++◌, List, Result, Ok, Err}
 use Rattle.std.specs.Prelude.{IsOkAnd, OnOk}
-use Rattle.mdcc_simulation.specs.State.{Happened, World}
-use Rattle.mdcc_language.specs.declared.lines.Line.{Line}
-use Rattle.mdcc_language.specs.declared.world.EventFault.{EventFault}
+use Rattle.mdcc_def_simulation.specs.State.{Happened, World}
+use Rattle.mdcc_def_language.specs.declared.lines.Line.{Line}
+use Rattle.mdcc_def_language.specs.declared.world.EventFault.{EventFault}
 use Rattle.mdcc_world.specs.Represents.{RepresentsWorld}
 use Rattle.mdcc_world.specs.declared.world.World.{World as TheWorld}
 

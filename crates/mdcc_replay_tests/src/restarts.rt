@@ -1,13 +1,13 @@
 //! Centres that crash and restart: whole replays, and the bytes of the logs.
 ghost use Rattle.std.specs.Prelude.{IfOk, OnOk};
-ghost use Rattle.mdcc_protocol.specs.IsCluster.{IsCluster};
-ghost use Rattle.mdcc_simulation.specs.State.{World as AWorld};
+ghost use Rattle.mdcc_def_protocol.specs.IsCluster.{IsCluster};
+ghost use Rattle.mdcc_def_simulation.specs.State.{World as AWorld};
 ghost use Rattle.mdcc_world.specs.Represents.{RepresentsWorld};
 
 use crate::replay_rows::{REPORT, Row, SCHEDULE};
 use crate::replays::check_behind;
 use mdcc_base::{Centre, HeapList, Quorums};
-use mdcc_language::{Event, EventFault};
+use mdcc_def_language::{Event, EventFault};
 use mdcc_option::{Cluster, FastLimit, Schema};
 use mdcc_world::World;
 use std::alloc::Global;

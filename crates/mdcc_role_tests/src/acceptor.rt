@@ -2,9 +2,9 @@
 use crate::values::{LED, cluster, decrease, insert, key, six, tx};
 use mdcc_acceptor::{on_accept, on_prepare, on_propose};
 use mdcc_base::Ballot;
-use mdcc_list_facts::ListFacts;
+use mdcc_def_protocol::{AcceptAnswer, PrepareAnswer, ProposeAnswer};
+use mdcc_facts_listed::ListFacts;
 use mdcc_option::{Cause, Mark, Outcome};
-use mdcc_protocol::{AcceptAnswer, PrepareAnswer, ProposeAnswer};
 use mdcc_struct::Options;
 use std::alloc::Global;
 use std::test::Fail;

@@ -1,10 +1,10 @@
 //! What a leader answers.
 use crate::values::{LED, centre, choice, cluster, decrease, holding, insert, item, key, six, tx};
 use mdcc_base::{Ballot, BoundedList, Plain, Quorums, TxId};
+use mdcc_def_protocol::{LeadAnswer, Promise, PromiseAnswer};
+use mdcc_facts_listed::ListFacts;
 use mdcc_leader::Leader;
-use mdcc_list_facts::ListFacts;
 use mdcc_option::{Choice, Claim, Cluster, FastLimit, Mark, Update};
-use mdcc_protocol::{LeadAnswer, Promise, PromiseAnswer};
 use mdcc_struct::Options;
 use std::alloc::Global;
 use std::process::Abort;

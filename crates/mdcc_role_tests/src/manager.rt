@@ -1,10 +1,10 @@
 //! What a manager does with votes.
 use crate::values::{centre, cluster, insert, item, key, tx};
 use mdcc_base::{Ballot, BoundedList, TxId};
-use mdcc_list_facts::ListFacts;
+use mdcc_def_protocol::{ManagerAct, Vote};
+use mdcc_facts_listed::ListFacts;
 use mdcc_manager::{Manager, key_refused};
 use mdcc_option::{BeginFault, Cause, Cluster, Mark, Outcome, Part, Transaction, Update};
-use mdcc_protocol::{ManagerAct, Vote};
 use std::alloc::Global;
 use std::process::Abort;
 use std::test::Fail;

@@ -1,7 +1,7 @@
 //! Values of worked schedules: an insert of 10 under key a, and decreases of 4.
 use mdcc_base::{Ballot, BoundedList, Centre, Key, Quorums, TxId};
 use mdcc_facts::Fact;
-use mdcc_list_facts::ListFacts;
+use mdcc_facts_listed::ListFacts;
 use mdcc_option::{Choice, Cluster, FastLimit, Item, Outcome, Schema, Update};
 use mdcc_tests::adding::put;
 use std::alloc::Global;

@@ -1,9 +1,9 @@
 //! What a centre shows, and what it gives another one.
 use crate::values::{decrease, holding, insert, item, key, six, tx};
 use mdcc_base::{BoundedList, Plain};
-use mdcc_list_facts::ListFacts;
+use mdcc_def_protocol::{Give, Reading};
+use mdcc_facts_listed::ListFacts;
 use mdcc_option::{Delta, Outcome, Token};
-use mdcc_protocol::{Give, Reading};
 use mdcc_visible::{on_outcome, on_sync_ask, on_sync_give, read, rebase_due};
 use std::alloc::Global;
 use std::test::Fail;

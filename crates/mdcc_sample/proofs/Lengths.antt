@@ -4,9 +4,9 @@ use Rattle.std.specs.Fmt.{decimal}
 use Rattle.std.proofs.lemmas.Fmt.{length-decimal-le}
 use Rattle.rand_pcg.specs.Lcg.{Lcg}
 use Rattle.mdcc_sample.specs.Draws.{generator_of}
-use Rattle.mdcc_sample.specs.Orders.{AreFew, AreWithin, IsOrder, order_of}
+use Rattle.mdcc_sample.specs.Orders.{AreFew, AreItemsWithin, IsShopOrder, order_drawn}
 use Rattle.mdcc_sample.specs.Shop.{IsShop}
-use Rattle.mdcc_sample.specs.Texts.{Written, add_text, adds_text, begin_text, end_text, header_text, insert_text, is_down, item_text, items_text, order_from, order_text, orders_from, read_text, reads_text, sample_text, settle_if, turn_text}
+use Rattle.mdcc_sample.specs.Texts.{Written, add_text, adds_text, begin_text, insert_text, is_down, items_text, last_settle_text, order_from, order_text, orders_from, reads_text, sample_text, settle_if, shop_header_text, shop_item_text, shop_read_text, turn_text}
 use Rattle.mdcc_sample.proofs.Sound.{orders_are_sound}
 use Rattle.mdcc_sample.specs.declared.orders.Order.{Order}
 use Rattle.mdcc_sample.specs.declared.orders.Three.{Three}
@@ -39,7 +39,7 @@ settle_short : (test : Bool) → length (settle_if test) ≤ 7
 settle_short true = lit≤ tt
 settle_short false = lit≤ tt
 
-read_short : (centre item : ℕ) → centre ≤ 5 → item < 200 → length (read_text centre item) ≤ 16
+read_short : (centre item : ℕ) → centre ≤ 5 → item < 200 → length (shop_read_text centre item) ≤ 16
 read_short centre item h k =
     let a : length (decimal centre) ≤ 1 = one_digit centre (omega arith) in
     let b : length (decimal (item + 1)) ≤ 3 = three_digits (item + 1) (omega arith) in
@@ -64,12 +64,12 @@ begin_short reads order h at few =
     let b = adds_short reads order.amounts h few in
     omega (arith, a, b, four_pieces (codes "begin ") (decimal order.centre) (adds_text reads order.amounts) (codes "\n"))
 
-reads_short : (items : ℕ) (order : Order) → items ≤ 200 → order.centre ≤ 5 → AreWithin items order.items → length (reads_text order) ≤ 48
+reads_short : (items : ℕ) (order : Order) → items ≤ 200 → order.centre ≤ 5 → AreItemsWithin items order.items → length (reads_text order) ≤ 48
 reads_short items order h at within =
     let a = read_short order.centre order.items.first at (omega (arith, within.first)) in
     let b = read_short order.centre order.items.second at (omega (arith, within.second)) in
     let c = read_short order.centre order.items.third at (omega (arith, within.third)) in
-    omega (arith, a, b, c, three_pieces (read_text order.centre order.items.first) (read_text order.centre order.items.second) (read_text order.centre order.items.third))
+    omega (arith, a, b, c, three_pieces (shop_read_text order.centre order.items.first) (shop_read_text order.centre order.items.second) (shop_read_text order.centre order.items.third))
 
 turn_by : (crash restart : Bool) → length (if crash then codes "crash 3\n" else (if restart then codes "restart 3\nsettle\n" else [])) ≤ 17
 turn_by true restart = lit≤ tt
@@ -81,18 +81,18 @@ turn_short third number = turn_by (nat_lt 0 third && number == third + 1) (nat_l
 
 -- ---- items
 
-item_short : (items number : ℕ) → number ≤ 200 → length (item_text items number) ≤ 35
+item_short : (items number : ℕ) → number ≤ 200 → length (shop_item_text items number) ≤ 35
 item_short items number h =
     omega (arith, insert_short number h, settle_short (number % 50 == 0 || number == items), length-append (insert_text number) (settle_if (number % 50 == 0 || number == items)))
 
 pub items_short : (items n : ℕ) → n ≤ 200 → length (items_text items n) ≤ 35 * n
 items_short items zero h = omega arith
 items_short items (suc n) h =
-    omega (arith, items_short items n (omega arith), item_short items (suc n) h, length-append (items_text items n) (item_text items (suc n)))
+    omega (arith, items_short items n (omega arith), item_short items (suc n) h, length-append (items_text items n) (shop_item_text items (suc n)))
 
 -- ---- orders
 
-order_text_short : (items orders number : ℕ) (order : Order) → items ≤ 200 → number ≤ 1000 → order.centre ≤ 5 → AreWithin items order.items → AreFew order.amounts
+order_text_short : (items orders number : ℕ) (order : Order) → items ≤ 200 → number ≤ 1000 → order.centre ≤ 5 → AreItemsWithin items order.items → AreFew order.amounts
     → length (order_text orders number order) ≤ 122
 order_text_short items orders number order h k at within few =
     let a = turn_short (orders / 3) number in
@@ -104,8 +104,8 @@ order_text_short items orders number order h k at within few =
 order_short : (items orders number : ℕ) (generator : Lcg) → 3 ≤ items → items ≤ 200 → number ≤ 1000 → length (order_from items orders number generator).text ≤ 122
 unfolding order_from
 order_short items orders number generator some h k =
-    let order : Order = (order_of items (is_down orders number) generator).0 in
-    let is : IsOrder items (is_down orders number) order = orders_are_sound items (is_down orders number) generator some in
+    let order : Order = (order_drawn items (is_down orders number) generator).0 in
+    let is : IsShopOrder items (is_down orders number) order = orders_are_sound items (is_down orders number) generator some in
     order_text_short items orders number order h k is.serving.five is.within is.few
 
 pub orders_short : (items orders : ℕ) (generator : Lcg) (n : ℕ) → 3 ≤ items → items ≤ 200 → n ≤ 1000 → length (orders_from items orders generator n).text ≤ 122 * n
@@ -125,5 +125,5 @@ sample_is_short seed items orders shop =
     let more : List ℕ = (orders_from items orders (generator_of seed) orders).text in
     let c : 35 * items ≤ 7000 = omega (arith, shop.few_items) in
     let d : 122 * orders ≤ 122000 = omega (arith, shop.few_orders) in
-    let size : length header_text + (length (items_text items items) + (length more + length end_text)) ≤ 2 ^ 17 = omega arith in
-    omega (arith, four_pieces header_text (items_text items items) more end_text)
+    let size : length shop_header_text + (length (items_text items items) + (length more + length last_settle_text)) ≤ 2 ^ 17 = omega arith in
+    omega (arith, four_pieces shop_header_text (items_text items items) more last_settle_text)

@@ -5,7 +5,7 @@ use Rattle.std.proofs.lemmas.Bool.{cases_eq}
 use Rattle.std.proofs.lemmas.Grind.{common_steps}
 use Rattle.rand_pcg.specs.Lcg.{Lcg}
 use Rattle.mdcc_sample.specs.Draws.{drawn}
-use Rattle.mdcc_sample.specs.Orders.{AreDistinct, AreFew, AreWithin, IsOrder, IsServing, amounts_of, items_of, order_of, other_item, serving_centre}
+use Rattle.mdcc_sample.specs.Orders.{AreDistinctItems, AreFew, AreItemsWithin, IsServing, IsShopOrder, amounts_drawn, items_of, order_drawn, other_item, serving_centre}
 use Rattle.mdcc_sample.proofs.Around.{other_is_other, third_below, third_is_neither}
 
 drawn_below : (bound : ℕ) (generator : Lcg) → 0 < bound → (drawn bound generator).0 < bound
@@ -30,7 +30,7 @@ serves centre true some five =
     ]
 serves centre false some five = record { some = some; five = five; up = λ h. absurd (cc) }
 
-items_within : (items : ℕ) (generator : Lcg) → 3 ≤ items → AreWithin items (items_of items generator).0
+items_within : (items : ℕ) (generator : Lcg) → 3 ≤ items → AreItemsWithin items (items_of items generator).0
 items_within items generator some =
     let first = drawn items generator in
     let step = drawn (items - 1) first.1 in
@@ -40,7 +40,7 @@ items_within items generator some =
     let c : third.0 < items = drawn_below items step.1 (omega arith) in
     record { first = a; second = b; third = third_below items first.0 (other_item items first.0 step.0) third.0 c }
 
-items_distinct : (items : ℕ) (generator : Lcg) → 3 ≤ items → AreDistinct (items_of items generator).0
+items_distinct : (items : ℕ) (generator : Lcg) → 3 ≤ items → AreDistinctItems (items_of items generator).0
 items_distinct items generator some =
     let first = drawn items generator in
     let step = drawn (items - 1) first.1 in
@@ -51,7 +51,7 @@ items_distinct items generator some =
     let other : other_item items first.0 step.0 ≢ first.0 = other_is_other items first.0 step.0 a (omega arith) in
     record { second_is_other = other; third_is_neither = third_is_neither items first.0 (other_item items first.0 step.0) third.0 some c other }
 
-amounts_few : (generator : Lcg) → AreFew (amounts_of generator).0
+amounts_few : (generator : Lcg) → AreFew (amounts_drawn generator).0
 amounts_few generator =
     let first = drawn 3 generator in
     let second = drawn 3 first.1 in
@@ -60,7 +60,7 @@ amounts_few generator =
     let c : (drawn 3 second.1).0 < 3 = drawn_below 3 second.1 (lit< tt) in
     record { some_first = omega arith; few_first = omega arith; some_second = omega arith; few_second = omega arith; some_third = omega arith; few_third = omega arith }
 
-pub orders_are_sound : (items : ℕ) (is_down : Bool) (generator : Lcg) → 3 ≤ items → IsOrder items is_down (order_of items is_down generator).0
+pub orders_are_sound : (items : ℕ) (is_down : Bool) (generator : Lcg) → 3 ≤ items → IsShopOrder items is_down (order_drawn items is_down generator).0
 orders_are_sound items is_down generator some =
     let centre = drawn 5 generator in
     let within : centre.0 < 5 = drawn_below 5 generator (lit< tt) in

@@ -10,8 +10,8 @@ abbrev pub serving_centre : ℕ → Bool → ℕ
 serving_centre centre is_down = if is_down && centre == 3 then 4 else centre
 
 -- the centre that takes an order
-abbrev pub centre_of : Bool → Lcg → ℕ × Lcg
-centre_of is_down generator =
+abbrev pub centre_drawn : Bool → Lcg → ℕ × Lcg
+centre_drawn is_down generator =
     let centre = drawn 5 generator in
     (serving_centre (centre.0 + 1) is_down, centre.1)
 
@@ -41,19 +41,19 @@ items_of items generator =
     (record { first = first.0; second = second; third = third_item items first.0 second third.0 }, third.1)
 
 -- how many pieces of each, 1 to 3
-abbrev pub amounts_of : Lcg → Three × Lcg
-amounts_of generator =
+abbrev pub amounts_drawn : Lcg → Three × Lcg
+amounts_drawn generator =
     let first = drawn 3 generator in
     let second = drawn 3 first.1 in
     let third = drawn 3 second.1 in
     (record { first = first.0 + 1; second = second.0 + 1; third = third.0 + 1 }, third.1)
 
 -- an order, and the generator after it
-abbrev pub order_of : ℕ → Bool → Lcg → Order × Lcg
-order_of items is_down generator =
-    let centre = centre_of is_down generator in
+abbrev pub order_drawn : ℕ → Bool → Lcg → Order × Lcg
+order_drawn items is_down generator =
+    let centre = centre_drawn is_down generator in
     let ordered = items_of items centre.1 in
-    let amounts = amounts_of ordered.1 in
+    let amounts = amounts_drawn ordered.1 in
     (record { centre = centre.0; items = ordered.0; amounts = amounts.0 }, amounts.1)
 
 -- ---- what every order is
@@ -62,13 +62,13 @@ abbrev pub IsNeither : ℕ → ℕ → ℕ → Type 0
 IsNeither first second item = (item ≢ first) × (item ≢ second)
 
 -- three items of a shop with so many
-pub record AreWithin (items : ℕ) (ordered : Three) : Type 0 where
+pub record AreItemsWithin (items : ℕ) (ordered : Three) : Type 0 where
   pub first : ordered.first < items
   pub second : ordered.second < items
   pub third : ordered.third < items
 
 -- of which no two are one
-pub record AreDistinct (ordered : Three) : Type 0 where
+pub record AreDistinctItems (ordered : Three) : Type 0 where
   pub second_is_other : ordered.second ≢ ordered.first
   pub third_is_neither : IsNeither ordered.first ordered.second ordered.third
 
@@ -88,12 +88,12 @@ pub record IsServing (is_down : Bool) (centre : ℕ) : Type 0 where
   pub up : is_down ≡ true → centre ≢ 3
 
 -- an order of a shop with so many items
-pub record IsOrder (items : ℕ) (is_down : Bool) (order : Order) : Type 0 where
+pub record IsShopOrder (items : ℕ) (is_down : Bool) (order : Order) : Type 0 where
   pub serving : IsServing is_down order.centre
-  pub within : AreWithin items order.items
-  pub distinct : AreDistinct order.items
+  pub within : AreItemsWithin items order.items
+  pub distinct : AreDistinctItems order.items
   pub few : AreFew order.amounts
 
 -- so is every order, whatever is drawn
 abbrev pub EveryOrderIs : Type 0
-EveryOrderIs = (items : ℕ) (is_down : Bool) (generator : Lcg) → 3 ≤ items → IsOrder items is_down (order_of items is_down generator).0
+EveryOrderIs = (items : ℕ) (is_down : Bool) (generator : Lcg) → 3 ≤ items → IsShopOrder items is_down (order_drawn items is_down generator).0

@@ -2,13 +2,13 @@
 use Rattle.std.specs.Prelude.{Bool, List, [], codes, decimal, if◌then◌else◌, nat_le, nat_lt, suc, zero, ℕ, ◌%◌, ◌&&◌, ◌*◌, ◌++◌, ◌+◌, ◌-◌, ◌/◌, ◌==◌, ◌||◌}
 use Rattle.rand_pcg.specs.Lcg.{Lcg}
 use Rattle.mdcc_sample.specs.Draws.{generator_of}
-use Rattle.mdcc_sample.specs.Orders.{order_of}
+use Rattle.mdcc_sample.specs.Orders.{order_drawn}
 use Rattle.mdcc_sample.specs.declared.orders.Order.{Order}
 use Rattle.mdcc_sample.specs.declared.orders.Three.{Three}
 
 -- five centres, of which any three are a classic quorum and any four a fast one, and items of one number
-abbrev pub header_text : List ℕ
-header_text = codes "mdcc-schedule 1\nquorums 5 3 4\ngamma 100\nbound 0 1000000\nstart\n"
+abbrev pub shop_header_text : List ℕ
+shop_header_text = codes "mdcc-schedule 1\nquorums 5 3 4\ngamma 100\nbound 0 1000000\nstart\n"
 
 abbrev pub settle_text : List ℕ
 settle_text = codes "settle\n"
@@ -24,19 +24,19 @@ abbrev pub insert_text : ℕ → List ℕ
 insert_text number = codes "begin " ++ decimal ((number - 1) % 5 + 1) ++ codes " new:item/" ++ decimal number ++ codes ":-:1000\n"
 
 -- a settle comes after each fiftieth, and after the last
-abbrev pub item_text : ℕ → ℕ → List ℕ
-item_text items number = insert_text number ++ settle_if (number % 50 == 0 || number == items)
+abbrev pub shop_item_text : ℕ → ℕ → List ℕ
+shop_item_text items number = insert_text number ++ settle_if (number % 50 == 0 || number == items)
 
 -- the first n of so many items
 abbrev pub items_text : ℕ → ℕ → List ℕ
 items_text items zero = []
-items_text items (suc n) = items_text items n ++ item_text items (suc n)
+items_text items (suc n) = items_text items n ++ shop_item_text items (suc n)
 
 -- ---- orders
 
 -- a read of an item, which is counted from 0
-abbrev pub read_text : ℕ → ℕ → List ℕ
-read_text centre item = codes "read " ++ decimal centre ++ codes " item/" ++ decimal (item + 1) ++ codes "\n"
+abbrev pub shop_read_text : ℕ → ℕ → List ℕ
+shop_read_text centre item = codes "read " ++ decimal centre ++ codes " item/" ++ decimal (item + 1) ++ codes "\n"
 
 -- so many pieces of what the read of this number saw are taken
 abbrev pub add_text : ℕ → ℕ → List ℕ
@@ -44,7 +44,7 @@ add_text read amount = codes " add:" ++ decimal read ++ codes ":1=-" ++ decimal 
 
 abbrev pub reads_text : Order → List ℕ
 reads_text order =
-    read_text order.centre order.items.first ++ read_text order.centre order.items.second ++ read_text order.centre order.items.third
+    shop_read_text order.centre order.items.first ++ shop_read_text order.centre order.items.second ++ shop_read_text order.centre order.items.third
 
 -- one of each of the next three reads after so many
 abbrev pub adds_text : ℕ → Three → List ℕ
@@ -78,7 +78,7 @@ pub record Written : Type 0 where
 -- the order of this number is drawn
 unfoldable pub order_from : ℕ → ℕ → ℕ → Lcg → Written
 order_from items orders number generator =
-    let order = order_of items (is_down orders number) generator in
+    let order = order_drawn items (is_down orders number) generator in
     record { text = order_text orders number order.0; generator = order.1 }
 
 -- the first n of so many orders
@@ -95,9 +95,9 @@ orders_from items orders generator (suc n) =
 abbrev pub ticks_text : List ℕ
 ticks_text = codes "tick 1\ntick 2\ntick 3\ntick 4\ntick 5\nsettle\n"
 
-abbrev pub end_text : List ℕ
-end_text = settle_text ++ ticks_text ++ ticks_text
+abbrev pub last_settle_text : List ℕ
+last_settle_text = settle_text ++ ticks_text ++ ticks_text
 
 unfoldable pub sample_text : ℕ → ℕ → ℕ → List ℕ
 sample_text seed items orders =
-    header_text ++ items_text items items ++ (orders_from items orders (generator_of seed) orders).text ++ end_text
+    shop_header_text ++ items_text items items ++ (orders_from items orders (generator_of seed) orders).text ++ last_settle_text

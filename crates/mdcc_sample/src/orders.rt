@@ -1,6 +1,6 @@
 //! What is ordered, where, and how much of it.
 ghost use Rattle.std.specs.Prelude.{◌≡◌, ◌+◌, ◌<◌, ◌≤◌};
-ghost use Rattle.mdcc_sample.specs.Orders.{AreWithin, amounts_of, centre_of, free_item, items_of, next_item, order_of, other_item, serving_centre, third_item};
+ghost use Rattle.mdcc_sample.specs.Orders.{AreItemsWithin, amounts_drawn, centre_drawn, free_item, items_of, next_item, order_drawn, other_item, serving_centre, third_item};
 
 use crate::draws::draw;
 use rand_pcg::Lcg64Xsh32;
@@ -30,8 +30,8 @@ fn serving_centre(centre: u32, is_down: bool) -> u32
 
 // The centre that takes an order.
 fn draw_centre(generator: &mut Lcg64Xsh32, is_down: bool) -> u32
-    ensures value { result ≡ (centre_of is_down generator.old).0 }
-    ensures moved { generator.new ≡ (centre_of is_down generator.old).1 }
+    ensures value { result ≡ (centre_drawn is_down generator.old).0 }
+    ensures moved { generator.new ≡ (centre_drawn is_down generator.old).1 }
 {
     let drawn = draw(generator, 5);
     serving_centre(drawn + 1, is_down)
@@ -92,7 +92,7 @@ fn draw_items(generator: &mut Lcg64Xsh32, items: u32) -> Three
     requires few { items ≤ 200 }
     ensures value { result ≡ (items_of items generator.old).0 }
     ensures moved { generator.new ≡ (items_of items generator.old).1 }
-    ensures within { AreWithin items result }
+    ensures within { AreItemsWithin items result }
 {
     let first = draw(generator, items);
     let step = draw(generator, items - 1);
@@ -107,8 +107,8 @@ fn draw_items(generator: &mut Lcg64Xsh32, items: u32) -> Three
 
 // How many pieces of each.
 fn draw_amounts(generator: &mut Lcg64Xsh32) -> Three
-    ensures value { result ≡ (amounts_of generator.old).0 }
-    ensures moved { generator.new ≡ (amounts_of generator.old).1 }
+    ensures value { result ≡ (amounts_drawn generator.old).0 }
+    ensures moved { generator.new ≡ (amounts_drawn generator.old).1 }
 {
     let first = draw(generator, 3);
     let second = draw(generator, 3);
@@ -124,9 +124,9 @@ fn draw_amounts(generator: &mut Lcg64Xsh32) -> Three
 pub(crate) fn draw_order(generator: &mut Lcg64Xsh32, items: u32, is_down: bool) -> Order
     requires some { 3 ≤ items }
     requires few { items ≤ 200 }
-    ensures value { result ≡ (order_of items is_down generator.old).0 }
-    ensures moved { generator.new ≡ (order_of items is_down generator.old).1 }
-    ensures within { AreWithin items result.items }
+    ensures value { result ≡ (order_drawn items is_down generator.old).0 }
+    ensures moved { generator.new ≡ (order_drawn items is_down generator.old).1 }
+    ensures within { AreItemsWithin items result.items }
 {
     let centre = draw_centre(generator, is_down);
     let ordered = draw_items(generator, items);

@@ -1,15 +1,15 @@
 //! Lines of a schedule, written behind a text.
 ghost use Rattle.std.specs.Prelude.{◌≡◌, ◌++◌, ◌+◌, ◌<◌, ◌≤◌, OnOk};
 ghost use Rattle.std.specs.String.{string_bytes};
-ghost use Rattle.mdcc_sample.specs.Orders.{AreWithin};
-ghost use Rattle.mdcc_sample.specs.Texts.{add_text, adds_text, begin_text, end_text, header_text, insert_text, item_text, order_text, read_text, reads_text, settle_if, ticks_text, turn_text};
+ghost use Rattle.mdcc_sample.specs.Orders.{AreItemsWithin};
+ghost use Rattle.mdcc_sample.specs.Texts.{add_text, adds_text, begin_text, insert_text, last_settle_text, order_text, reads_text, settle_if, shop_header_text, shop_item_text, shop_read_text, ticks_text, turn_text};
 
 use crate::orders::{Order, Three};
 use std::alloc::AllocError;
 
 /// Adds the header.
 pub(crate) fn write_header(text: &mut String) -> Result<(), AllocError>
-    ensures { OnOk result (string_bytes text.new ≡ string_bytes text.old ++ header_text) }
+    ensures { OnOk result (string_bytes text.new ≡ string_bytes text.old ++ shop_header_text) }
 {
     write!(
         text,
@@ -39,7 +39,7 @@ fn write_insert(number: u32, text: &mut String) -> Result<(), AllocError>
 /// Adds what an item takes, by its number from 1.
 pub(crate) fn write_item(items: u32, number: u32, text: &mut String) -> Result<(), AllocError>
     requires { 0 < number }
-    ensures { OnOk result (string_bytes text.new ≡ string_bytes text.old ++ item_text items number) }
+    ensures { OnOk result (string_bytes text.new ≡ string_bytes text.old ++ shop_item_text items number) }
 {
     write_insert(number, text)?;
     settle_if(number % 50 == 0 || number == items, text)
@@ -48,7 +48,7 @@ pub(crate) fn write_item(items: u32, number: u32, text: &mut String) -> Result<(
 // Adds a read of an item, by its index.
 fn write_read(centre: u32, item: u32, text: &mut String) -> Result<(), AllocError>
     requires { item < 1000 }
-    ensures { OnOk result (string_bytes text.new ≡ string_bytes text.old ++ read_text centre item) }
+    ensures { OnOk result (string_bytes text.new ≡ string_bytes text.old ++ shop_read_text centre item) }
 {
     let number = item + 1;
     write!(text, "read {centre} item/{number}\n")
@@ -63,7 +63,7 @@ fn write_add(read: u32, amount: u32, text: &mut String) -> Result<(), AllocError
 
 // Adds the reads of an order.
 fn write_reads(order: &Order, text: &mut String) -> Result<(), AllocError>
-    requires { AreWithin 200 order.now.items }
+    requires { AreItemsWithin 200 order.now.items }
     ensures { OnOk result (string_bytes text.new ≡ string_bytes text.old ++ reads_text order.now) }
 {
     write_read(order.centre, order.items.first, text)?;
@@ -115,7 +115,7 @@ pub(crate) fn write_order(
     requires some { 0 < number }
     requires few { orders ≤ 1000 }
     requires among { number ≤ orders }
-    requires within { AreWithin 200 order.now.items }
+    requires within { AreItemsWithin 200 order.now.items }
     ensures { OnOk result (string_bytes text.new ≡ string_bytes text.old ++ order_text orders number order.now) }
 {
     write_turn(orders / 3, number, text)?;
@@ -126,7 +126,7 @@ pub(crate) fn write_order(
 
 /// Adds the end, at which all comes to rest.
 pub(crate) fn write_end(text: &mut String) -> Result<(), AllocError>
-    ensures { OnOk result (string_bytes text.new ≡ string_bytes text.old ++ end_text) }
+    ensures { OnOk result (string_bytes text.new ≡ string_bytes text.old ++ last_settle_text) }
 {
     settle_if(true, text)?;
     write_ticks(text)?;

@@ -1,8 +1,8 @@
 -- The first line of a text, and the others.
 use Rattle.std.proofs.Common.{ℕ, suc, ◌+◌, ◌≤◌, ◌<◌, ◌==◌, Bool, true, false, not, cond, List, [], ◌∷◌, length, take, drop, get_or, if◌then◌else◌, ◌≡◌, refl, sym, ap, ◌∙◌, arith}
 use Rattle.std.specs.List.{onto_first, position_or_len}
-use Rattle.mdcc_language.specs.Lines.{lines_in, bytes_of_line}
-use Rattle.mdcc_words.proofs.Parts.{part_len_is, place_within}
+use Rattle.mdcc_def_language.specs.Lines.{lines_in, bytes_of_line}
+use Rattle.mdcc_sched_words.proofs.Parts.{part_len_is, place_within}
 use Rattle.std.proofs.Common.{length-take-le}
 
 -- how many bytes the first line has

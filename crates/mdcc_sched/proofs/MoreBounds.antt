@@ -5,9 +5,9 @@ use Rattle.std.proofs.lemmas.Bool.{and_parts, and_from, le-leb}
 use Rattle.mdcc_option.specs.Bounds.{IsSchema, is_bound}
 use Rattle.mdcc_option.specs.Schema.{bad_bound_from, schema_by, schema_of}
 use Rattle.mdcc_option.specs.declared.schema.SchemaFault.TheVariants.{Count}
-use Rattle.mdcc_language.specs.declared.schedule.HeaderFault.{HeaderFault}
-use Rattle.mdcc_language.specs.Header.{UnreadLines, Bounds, begins_next, bound_line, more_bounds, bounds_lines}
-use Rattle.mdcc_language.specs.Words.{◌>>=◌}
+use Rattle.mdcc_def_language.specs.declared.schedule.HeaderFault.{HeaderFault}
+use Rattle.mdcc_def_language.specs.Header.{UnreadLines, Bounds, begins_next, bound_line, more_bounds, bounds_lines}
+use Rattle.mdcc_def_language.specs.Words.{◌>>=◌}
 
 -- ---- schemas
 

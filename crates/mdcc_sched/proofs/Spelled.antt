@@ -8,20 +8,20 @@ use Rattle.mdcc_base.specs.AreQuorums.{AreQuorums}
 use Rattle.mdcc_base.specs.declared.outside.Image.{Image}
 use Rattle.mdcc_base.specs.declared.outside.Image.TheVariants.{Lost, Kept, Torn}
 use Rattle.mdcc_option.specs.declared.cluster.Cluster.{Cluster}
-use Rattle.mdcc_language.specs.declared.events.Event.{Event}
-use Rattle.mdcc_language.specs.declared.events.Event.TheVariants.{Read, Begin, Deliver, Settle, Tick, Crash, Restart, Stop}
-use Rattle.mdcc_language.specs.declared.events.UpdateWord.{UpdateWord}
-use Rattle.mdcc_language.specs.declared.schedule.SchedFault.{SchedFault}
-use Rattle.mdcc_language.specs.declared.schedule.SchedCause.TheVariants.{Word, Range}
-use Rattle.mdcc_language.specs.Lines.{bounded, bytes_of_line, most_line_bytes, of_long, line_end_by, line_end_of}
-use Rattle.mdcc_language.specs.Report.{image_text}
-use Rattle.mdcc_language.specs.Schedule.{parse_centre, parse_image, parse_stop, above, numbers_from, updates_from, centres_from, last_centre, parse_tick, parse_crash, parse_restart, parse_read, parse_begin, parse_deliver, parse_settle, begins_with, parse_event, event_or_none, event_in, line_of}
-use Rattle.mdcc_language.specs.Updates.{update_of}
-use Rattle.mdcc_language.specs.Words.{◌>>=◌, refused, part_at, parts_from, start_after, end_at, word_at, word_end, not_empty, word_after, count_of, key_of, natural_of, text_eq}
-use Rattle.mdcc_words.specs.Spelled.{update_text}
-use Rattle.mdcc_words.proofs.Parts.{part_len_is, place_within}
-use Rattle.mdcc_words.proofs.Seams.{bind_ok, part_seam, front_seam, behind_ok, end_ok, drop_all}
-use Rattle.mdcc_words.proofs.Spelled.{natural_spelled, count_spelled, key_spelled, update_spelled}
+use Rattle.mdcc_def_language.specs.declared.events.Event.{Event}
+use Rattle.mdcc_def_language.specs.declared.events.Event.TheVariants.{Read, Begin, Deliver, Settle, Tick, Crash, Restart, Stop}
+use Rattle.mdcc_def_language.specs.declared.events.UpdateWord.{UpdateWord}
+use Rattle.mdcc_def_language.specs.declared.schedule.SchedFault.{SchedFault}
+use Rattle.mdcc_def_language.specs.declared.schedule.SchedCause.TheVariants.{Word, Range}
+use Rattle.mdcc_def_language.specs.Lines.{bounded, bytes_of_line, most_line_bytes, of_long, line_end_by, line_end_of}
+use Rattle.mdcc_def_language.specs.Report.{image_text}
+use Rattle.mdcc_def_language.specs.Schedule.{parse_centre, parse_image, parse_stop, above, numbers_from, updates_from, centres_from, last_centre, parse_tick, parse_crash, parse_restart, parse_read, parse_begin, parse_deliver, parse_settle, begins_with, parse_event, event_or_none, event_in, line_of}
+use Rattle.mdcc_def_language.specs.Updates.{update_of}
+use Rattle.mdcc_def_language.specs.Words.{◌>>=◌, refused, part_at, parts_from, start_after, end_at, word_at, word_end, not_empty, word_after, count_of, key_of, natural_of, text_eq}
+use Rattle.mdcc_sched_words.specs.Spelled.{update_text}
+use Rattle.mdcc_sched_words.proofs.Parts.{part_len_is, place_within}
+use Rattle.mdcc_sched_words.proofs.Seams.{bind_ok, part_seam, front_seam, behind_ok, end_ok, drop_all}
+use Rattle.mdcc_sched_words.proofs.Spelled.{natural_spelled, count_spelled, key_spelled, update_spelled}
 use Rattle.mdcc_sched.specs.Spelled.{numbers_text, event_text}
 
 -- ---- words

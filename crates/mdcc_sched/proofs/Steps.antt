@@ -2,14 +2,14 @@
 use Rattle.std.proofs.Common.{ℕ, ◌+◌, ◌≤◌, Bool, true, false, List, [], ◌∷◌, ◌++◌, length, ◌≡◌, refl, sym, ap, ◌∙◌, arith, Result, Ok, Err}
 use Rattle.std.specs.Bool.{OnFalse}
 use Rattle.mdcc_option.specs.declared.cluster.Cluster.{Cluster}
-use Rattle.mdcc_language.specs.declared.schedule.SchedFault.{SchedFault}
-use Rattle.mdcc_language.specs.Schedule.{parse_centre, above, numbers_from, updates_from, centres_from}
-use Rattle.mdcc_language.specs.Updates.{update_of}
-use Rattle.mdcc_language.specs.Words.{◌>>=◌, part_at, not_empty, count_of}
+use Rattle.mdcc_def_language.specs.declared.schedule.SchedFault.{SchedFault}
+use Rattle.mdcc_def_language.specs.Schedule.{parse_centre, above, numbers_from, updates_from, centres_from}
+use Rattle.mdcc_def_language.specs.Updates.{update_of}
+use Rattle.mdcc_def_language.specs.Words.{◌>>=◌, part_at, not_empty, count_of}
 use Rattle.mdcc_sched.specs.Centres.{centre_above}
 use Rattle.mdcc_sched.specs.Numbers.{number_of_word}
-use Rattle.mdcc_words.proofs.Onto.{onto, onto_more}
-use Rattle.mdcc_words.proofs.Parts.{parts_left, parts_first}
+use Rattle.mdcc_sched_words.proofs.Onto.{onto, onto_more}
+use Rattle.mdcc_sched_words.proofs.Parts.{parts_left, parts_first}
 
 pub on_false : {P : Type 0} (b : Bool) → P → OnFalse b P
 on_false true p = tt

@@ -2,7 +2,7 @@
 use Rattle.std.proofs.Common.{ℕ, ℤ, ◌<◌, List, [], ◌∷◌, ◌++◌, length, map, flat_map, ◌≡◌, refl, sym, ap, arith, append-nil}
 use Rattle.std.specs.Fmt.{signed_decimal}
 use Rattle.std.specs.List.{join_with_byte}
-use Rattle.mdcc_language.specs.Report.{values_text, body_text, byte_text}
+use Rattle.mdcc_def_language.specs.Report.{values_text, body_text, byte_text}
 use Rattle.mdcc_sched.specs.Texts.{more_values_text}
 
 joined : (text : List ℕ) (values : List ℤ) → join_with_byte 44 (text ∷ map signed_decimal values) ≡ text ++ more_values_text values

@@ -1,8 +1,8 @@
 -- Faults that may come at any time.
 use Rattle.std.specs.Prelude.{Bool, true, false, ◌&&◌, ◌==◌}
-use Rattle.mdcc_language.specs.declared.schedule.ResolveFault.{ResolveFault}
-use Rattle.mdcc_language.specs.declared.schedule.SchedCause.{SchedCause}
-use Rattle.mdcc_language.specs.declared.schedule.SchedFault.{SchedFault}
+use Rattle.mdcc_def_language.specs.declared.schedule.ResolveFault.{ResolveFault}
+use Rattle.mdcc_def_language.specs.declared.schedule.SchedCause.{SchedCause}
+use Rattle.mdcc_def_language.specs.declared.schedule.SchedFault.{SchedFault}
 
 abbrev pub is_memory_cause : SchedCause → Bool
 is_memory_cause SchedCause.Memory = true

@@ -3,10 +3,10 @@ use Rattle.std.specs.Prelude.{ℕ, ℤ, List, Option, option_and_then, Result, O
 use Rattle.mdcc_option.specs.declared.items.Known.{Known}
 use Rattle.mdcc_option.specs.declared.items.Part.{Part}
 use Rattle.mdcc_option.specs.declared.items.Update.TheVariants.{Add}
-use Rattle.mdcc_language.specs.declared.events.UpdateWord.{UpdateWord}
-use Rattle.mdcc_language.specs.declared.schedule.ResolveFault.{ResolveFault}
-use Rattle.mdcc_language.specs.Resolve.{read_named, if_missing, item_in, part_on, written_on}
-use Rattle.mdcc_language.specs.Words.{◌>>=◌}
+use Rattle.mdcc_def_language.specs.declared.events.UpdateWord.{UpdateWord}
+use Rattle.mdcc_def_language.specs.declared.schedule.ResolveFault.{ResolveFault}
+use Rattle.mdcc_def_language.specs.Resolve.{read_named, if_missing, item_in, part_on, written_on}
+use Rattle.mdcc_def_language.specs.Words.{◌>>=◌}
 
 -- the read that a word names, where it was not made
 abbrev pub missing_in : List (Option Known) → UpdateWord → Option ℕ

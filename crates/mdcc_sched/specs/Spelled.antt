@@ -3,11 +3,11 @@ use Rattle.std.specs.Prelude.{ℕ, ◌≡◌, List, [], ◌∷◌, ◌++◌, map
 use Rattle.std.specs.List.{join_with_byte}
 use Rattle.mdcc_base.specs.AreQuorums.{AreQuorums}
 use Rattle.mdcc_option.specs.declared.cluster.Cluster.{Cluster}
-use Rattle.mdcc_language.specs.Report.{image_text}
-use Rattle.mdcc_language.specs.Schedule.{line_of}
-use Rattle.mdcc_language.specs.declared.events.Event.{Event}
-use Rattle.mdcc_language.specs.declared.events.Event.TheVariants.{Read, Begin, Deliver, Settle, Tick, Sweep, Crash, Restart, Stop}
-use Rattle.mdcc_words.specs.Spelled.{update_text}
+use Rattle.mdcc_def_language.specs.Report.{image_text}
+use Rattle.mdcc_def_language.specs.Schedule.{line_of}
+use Rattle.mdcc_def_language.specs.declared.events.Event.{Event}
+use Rattle.mdcc_def_language.specs.declared.events.Event.TheVariants.{Read, Begin, Deliver, Settle, Tick, Sweep, Crash, Restart, Stop}
+use Rattle.mdcc_sched_words.specs.Spelled.{update_text}
 
 -- numbers with spaces between them
 abbrev pub numbers_text : List ℕ → List ℕ

@@ -1,14 +1,14 @@
 //! The header of a schedule.
 ghost use Rattle.std.specs.Prelude.{◌≡◌, ◌++◌, ◌∷◌, [], ◌+◌, ◌≤◌, ◌<◌, codes, length, true, IfOk};
 ghost use Rattle.mdcc_option.specs.Bounds.{IsSchema, is_bound};
-ghost use Rattle.mdcc_language.specs.Header.{header_line, version_of, quorums_line, last_number, cells_line, limit_line, bound_line, bounds_lines, header_lines, header_of};
-ghost use Rattle.mdcc_language.specs.Words.{end_at};
+ghost use Rattle.mdcc_def_language.specs.Header.{header_line, version_of, quorums_line, last_number, cells_line, limit_line, bound_line, bounds_lines, header_lines, header_of};
+ghost use Rattle.mdcc_def_language.specs.Words.{end_at};
 ghost use Rattle.mdcc_sched.specs.Headers.{numbered_header};
 
 use crate::header_lines;
 use crate::left::Left;
 use mdcc_base::{BoundedList, Quorums};
-use mdcc_language::{HeaderCause, HeaderFault};
+use mdcc_def_language::{HeaderCause, HeaderFault};
 use mdcc_option::{Cluster, FastLimit, Schema, SchemaFault};
 
 // How many cells a node has where no line says them.

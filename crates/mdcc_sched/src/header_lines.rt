@@ -1,16 +1,16 @@
 //! The lines of a header, each with its line end, whatever their length.
 ghost use Rattle.std.specs.Prelude.{◌≡◌, ◌≤◌, ◌+◌, codes, length, IfOk, OnOk};
-ghost use Rattle.mdcc_language.specs.Header.{in_order, whole_line, is_version, version_of, last_number, parse_sizes, limit_in, fast_limit_of, bound_of};
-ghost use Rattle.mdcc_language.specs.Words.{end_at, word_at, natural_of};
+ghost use Rattle.mdcc_def_language.specs.Header.{in_order, whole_line, is_version, version_of, last_number, parse_sizes, limit_in, fast_limit_of, bound_of};
+ghost use Rattle.mdcc_def_language.specs.Words.{end_at, word_at, natural_of};
 
 use crate::lines::{bytes_of_line, line_end_of};
 use crate::words::{begins_with, word_after, word_at, word_end};
-use mdcc_language::SchedCause;
+use mdcc_def_language::SchedCause;
 use mdcc_option::FastLimit;
-use mdcc_words::TextFault;
-use mdcc_words::faults::refused;
-use mdcc_words::numbers::{natural_of, value_of};
-use mdcc_words::places::{end_at, text_eq};
+use mdcc_sched_words::TextFault;
+use mdcc_sched_words::faults::refused;
+use mdcc_sched_words::numbers::{natural_of, value_of};
+use mdcc_sched_words::places::{end_at, text_eq};
 
 // Whether a line begins with the word that the order allows there.
 fn in_order(word: &[u8], line: &[u8]) -> Result<(), TextFault>

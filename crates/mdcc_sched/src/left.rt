@@ -1,12 +1,12 @@
 //! How far a header is read.
 ghost use Rattle.std.specs.Prelude.{◌≡◌, ◌+◌, ◌-◌, ◌≤◌, ◌<◌, ◌^◌, [], get_or, drop, length};
-ghost use Rattle.mdcc_language.specs.Header.{all_of, next_line, without_next, refused_at, in_line, begins_next};
-ghost use Rattle.mdcc_language.specs.Lines.{bounded, bytes_of_line, lines_in};
+ghost use Rattle.mdcc_def_language.specs.Header.{all_of, next_line, without_next, refused_at, in_line, begins_next};
+ghost use Rattle.mdcc_def_language.specs.Lines.{bounded, bytes_of_line, lines_in};
 
 use crate::lines::{bounded, bytes_of_line};
 use crate::words::begins_with;
-use mdcc_language::{HeaderCause, HeaderFault};
-use mdcc_words::TextFault;
+use mdcc_def_language::{HeaderCause, HeaderFault};
+use mdcc_sched_words::TextFault;
 use std::marker::Model;
 
 /// The text that is left, which begins with a line, the place of that line in the whole text, and
@@ -20,8 +20,8 @@ pub struct Left<'a> {
 
 impl<'a> Model for Left<'a> {
     ghost use Rattle.std.specs.Prelude.{◌+◌, ◌^◌, ◌<◌, length};
-    ghost use Rattle.mdcc_language.specs.Header as header;
-    ghost use Rattle.mdcc_language.specs.Lines.{lines_in};
+    ghost use Rattle.mdcc_def_language.specs.Header as header;
+    ghost use Rattle.mdcc_def_language.specs.Lines.{lines_in};
 
     ghost Value = { header.UnreadLines };
 

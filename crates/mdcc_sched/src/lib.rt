@@ -15,11 +15,11 @@ mod words;
 
 pub use header::{parse_header, parse_numbered_header};
 pub use laws::events_are_spelled;
-pub use mdcc_language::{
+pub use mdcc_def_language::{
     Event, HeaderCause, HeaderFault, Line, ResolveFault, SchedCause, SchedFault, UpdateWord,
 };
 pub use mdcc_option::Known;
-pub use mdcc_words::{parse_body, parse_key, parse_number, parse_update, parse_values};
+pub use mdcc_sched_words::{parse_body, parse_key, parse_number, parse_update, parse_values};
 pub use parts::resolve;
 pub use print::print_line;
 pub use schedule::parse_line;

@@ -1,11 +1,11 @@
 //! Lines of a text.
 ghost use Rattle.std.specs.Prelude.{◌≡◌, ◌+◌, ◌≤◌, IfErr, length};
-ghost use Rattle.mdcc_language.specs.Lines.{bounded, bytes_of_line, line_end_of, of_long};
+ghost use Rattle.mdcc_def_language.specs.Lines.{bounded, bytes_of_line, line_end_of, of_long};
 
-use mdcc_language::SchedCause;
-use mdcc_words::TextFault;
-use mdcc_words::faults::refused;
-use mdcc_words::places::part_at;
+use mdcc_def_language::SchedCause;
+use mdcc_sched_words::TextFault;
+use mdcc_sched_words::faults::refused;
+use mdcc_sched_words::places::part_at;
 
 // The most bytes that a line may have before its end.
 const MOST_BYTES: usize = 4096;

@@ -1,20 +1,20 @@
 //! Lists of words, from a place of a line to its end.
 ghost use Rattle.std.specs.Prelude.{◌≡◌, ◌+◌, ◌≤◌, IfErr, length};
 ghost use Rattle.mdcc_base.specs.Unless.{GivesUnless};
-ghost use Rattle.mdcc_language.specs.Schedule.{parse_centre, above, numbers_from, updates_from, centres_from};
-ghost use Rattle.mdcc_language.specs.Words.{parts_from};
+ghost use Rattle.mdcc_def_language.specs.Schedule.{parse_centre, above, numbers_from, updates_from, centres_from};
+ghost use Rattle.mdcc_def_language.specs.Words.{parts_from};
 ghost use Rattle.mdcc_sched.specs.Centres.{centre_above};
 ghost use Rattle.mdcc_sched.specs.Free.{is_sched_memory};
 ghost use Rattle.mdcc_sched.specs.Numbers.{number_of_word};
 
 use crate::words::{not_empty, word_at};
 use mdcc_base::{Centre, HeapList};
-use mdcc_language::{SchedCause, UpdateWord};
+use mdcc_def_language::{SchedCause, UpdateWord};
 use mdcc_option::Cluster;
-use mdcc_words::TextFault;
-use mdcc_words::faults::refused;
-use mdcc_words::numbers::{count_of, natural_of};
-use mdcc_words::updates::update_of;
+use mdcc_sched_words::TextFault;
+use mdcc_sched_words::faults::refused;
+use mdcc_sched_words::numbers::{count_of, natural_of};
+use mdcc_sched_words::updates::update_of;
 use std::alloc::Global;
 
 // The number of a message.

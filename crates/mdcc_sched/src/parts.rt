@@ -2,12 +2,12 @@
 ghost use Rattle.std.specs.Prelude.{◌≡◌};
 ghost use Rattle.std.specs.Option.{option_copied};
 ghost use Rattle.mdcc_base.specs.Unless.{GivesUnless};
-ghost use Rattle.mdcc_language.specs.Resolve.{read_at, read_named, first_missing, item_in, written_on, part_of, parts_of, resolve};
+ghost use Rattle.mdcc_def_language.specs.Resolve.{read_at, read_named, first_missing, item_in, written_on, part_of, parts_of, resolve};
 ghost use Rattle.mdcc_sched.specs.Free.{is_resolve_memory};
 ghost use Rattle.mdcc_sched.specs.PartsOfWords.{missing_in, added_on, kept_on};
 
 use mdcc_base::{BoundedList, HeapList, Plain};
-use mdcc_language::{ResolveFault, UpdateWord};
+use mdcc_def_language::{ResolveFault, UpdateWord};
 use mdcc_option::{Amounts, Item, Known, Part, Update};
 use std::alloc::Global;
 

@@ -1,11 +1,11 @@
 //! Lines of a report.
 ghost use Rattle.std.specs.Prelude.{◌≡◌, ◌++◌, flat_map, OnOk, OnErr};
 ghost use Rattle.std.specs.String.{string_bytes};
-ghost use Rattle.mdcc_language.specs.Report.{byte_text, body_text, values_text, outcome_text, image_text, token_text, shown_text, begin_fault_text, words_text, line_text};
+ghost use Rattle.mdcc_def_language.specs.Report.{byte_text, body_text, values_text, outcome_text, image_text, token_text, shown_text, begin_fault_text, words_text, line_text};
 ghost use Rattle.mdcc_sched.specs.Texts.{centres_text, more_values_text};
 
 use mdcc_base::{Centre, Image, Key, Memory, TxId};
-use mdcc_language::Line;
+use mdcc_def_language::Line;
 use mdcc_option::{BeginFault, Item, Known, Token};
 use std::alloc::AllocError;
 

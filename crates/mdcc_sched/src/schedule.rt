@@ -1,21 +1,21 @@
 //! Lines of a schedule.
 ghost use Rattle.std.specs.Prelude.{◌≡◌, ◌+◌, ◌≤◌, IfErr, length};
 ghost use Rattle.mdcc_base.specs.Unless.{GivesUnless};
-ghost use Rattle.mdcc_language.specs.Schedule.{last_centre, parse_tick, parse_crash, parse_restart, parse_read, parse_begin, parse_deliver, parse_settle, parse_image, parse_stop, parse_event, event_or_none, event_in, line_of};
-ghost use Rattle.mdcc_language.specs.Lines.{bytes_of_line};
+ghost use Rattle.mdcc_def_language.specs.Schedule.{last_centre, parse_tick, parse_crash, parse_restart, parse_read, parse_begin, parse_deliver, parse_settle, parse_image, parse_stop, parse_event, event_or_none, event_in, line_of};
+ghost use Rattle.mdcc_def_language.specs.Lines.{bytes_of_line};
 ghost use Rattle.mdcc_sched.specs.Free.{is_sched_memory};
 
 use crate::lines::{bounded, bytes_of_line, line_end_of};
 use crate::lists::{centres_from, numbers_from, parse_centre, updates_from};
 use crate::words::{begins_with, word_after, word_at, word_end};
 use mdcc_base::{Centre, HeapList, Image};
-use mdcc_language::{Event, SchedCause, SchedFault};
+use mdcc_def_language::{Event, SchedCause, SchedFault};
 use mdcc_option::Cluster;
-use mdcc_words::TextFault;
-use mdcc_words::faults::{narrowed, refused};
-use mdcc_words::keys::key_of;
-use mdcc_words::numbers::natural_of;
-use mdcc_words::places::{end_at, text_eq};
+use mdcc_sched_words::TextFault;
+use mdcc_sched_words::faults::{narrowed, refused};
+use mdcc_sched_words::keys::key_of;
+use mdcc_sched_words::numbers::natural_of;
+use mdcc_sched_words::places::{end_at, text_eq};
 use std::alloc::Global;
 
 // The centre behind a place, which ends the line.

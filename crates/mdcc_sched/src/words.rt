@@ -1,12 +1,12 @@
 //! Words of a line, which are separated by one space. The line has no line end.
 ghost use Rattle.std.specs.Prelude.{◌≡◌, ◌+◌, ◌≤◌, IsTrue, IfErr, IfOk, length};
-ghost use Rattle.mdcc_language.specs.Words.{word_at, word_end, not_empty, word_after};
-ghost use Rattle.mdcc_language.specs.Schedule.{begins_with};
+ghost use Rattle.mdcc_def_language.specs.Words.{word_at, word_end, not_empty, word_after};
+ghost use Rattle.mdcc_def_language.specs.Schedule.{begins_with};
 
-use mdcc_language::SchedCause;
-use mdcc_words::TextFault;
-use mdcc_words::faults::refused;
-use mdcc_words::places::{part_at, part_end, start_after, text_eq};
+use mdcc_def_language::SchedCause;
+use mdcc_sched_words::TextFault;
+use mdcc_sched_words::faults::refused;
+use mdcc_sched_words::places::{part_at, part_end, start_after, text_eq};
 
 /// The word that begins at a place.
 pub fn word_at(at: usize, line: &[u8]) -> &[u8]

@@ -1,7 +1,7 @@
 //! The update word `add`: amounts that are read, and words that are refused. The expected values come
 //! from the grammar, by hand.
 use crate::schedule_words::{check, five_centres};
-use mdcc_language::{Event, UpdateWord};
+use mdcc_def_language::{Event, UpdateWord};
 use mdcc_option::Cluster;
 use mdcc_sched::SchedCause::{Number, Range, Word};
 use mdcc_sched::parse_line;

@@ -2,34 +2,34 @@
 use Rattle.std.proofs.Common.{◌≡◌, ℕ, ◌+◌, ◌-◌, ◌/◌, ◌%◌, min, ◌^◌, ◌<◌, ◌≤◌, true, not, List, [], ◌∷◌, ◌++◌, Some, Result, Ok, Err, refl, sym, ◌∙◌, ap, subst, inl, inr, arith, append-nil, append_assoc, map, length, nat_le}
 use Rattle.std.specs.List.{AllByRecursion}
 use Rattle.std.proofs.lemmas.Bool.{cases_Bool}
-use Rattle.mdcc_admission.specs.Boots.{BootsWithinCells}
-use Rattle.mdcc_admission.specs.Loading.{AreShort, Cells, Holds, boot_by, fact_in, fact_read, is_past, loaded_by, next_by, past_fault}
-use Rattle.mdcc_centre.specs.Nodes.{CentreStore, IsNodeOf, are_stored, cells_of, needed_in, spare_of}
-use Rattle.mdcc_ledger.specs.BootTest.{is_allowed_fact}
-use Rattle.mdcc_messages.specs.Lengths.{cells_needed, fact_length}
-use Rattle.mdcc_messages.specs.Reading.{fact_of}
-use Rattle.mdcc_messages.specs.Spelling.{encodings_of, fact_bytes}
-use Rattle.mdcc_messages.specs.WellFormed.{IsWellFormedFact}
-use Rattle.mdcc_messages.specs.declared.facts.Fact.{Fact}
-use Rattle.mdcc_messages.specs.declared.wire.WireFault.{WireFault}
+use Rattle.mdcc_node_boot.specs.Boots.{BootsWithinCells}
+use Rattle.mdcc_node_boot.specs.Loading.{AreWithinFrames, Cells, HoldsFacts, boot_by, exceeds_cells, fact_in, fact_read, loaded_by, past_fault, with_next_boot}
+use Rattle.mdcc_node_log.specs.Nodes.{CentreStore, IsNodeOf, are_stored, cells_of, needed_in, spare_cells_of}
+use Rattle.mdcc_def_ledger.specs.BootTest.{is_allowed_fact}
+use Rattle.mdcc_def_messages.specs.Lengths.{cells_needed, fact_length}
+use Rattle.mdcc_def_messages.specs.Reading.{fact_of}
+use Rattle.mdcc_def_messages.specs.Spelling.{encodings_of, fact_bytes}
+use Rattle.mdcc_def_messages.specs.WellFormed.{IsWellFormedFact}
+use Rattle.mdcc_def_messages.specs.declared.facts.Fact.{Fact}
+use Rattle.mdcc_def_messages.specs.declared.wire.WireFault.{WireFault}
 use Rattle.mdcc_node.specs.BootEffects.{Boots}
 use Rattle.mdcc_node.specs.declared.node.Node.{Node}
 use Rattle.mdcc_option.specs.declared.cluster.Cluster.{Cluster}
-use Rattle.mdcc_protocol.specs.Belongs.{is_centre}
-use Rattle.mdcc_protocol.specs.Facts.{epoch_of}
-use Rattle.mdcc_protocol.specs.IsCluster.{IsCluster}
-use Rattle.mdcc_protocol.specs.Volatile.{initial_volatile}
-use Rattle.mdcc_centre.proofs.Logged.{payloads-read}
-use Rattle.mdcc_centre.proofs.Starts.{boot-ends, node-boots}
-use Rattle.mdcc_centre.specs.Logged.{AreLogged}
-use Rattle.mdcc_rules.specs.Boot.{boot_of, next_boot}
-use Rattle.mdcc_rules.specs.declared.node.BootFault.{BootFault}
-use Rattle.mdcc_serve.specs.Starts.{GivesNode, GivesNone, boot_fault_of}
-use Rattle.mdcc_spelling.proofs.Lengths.{length-fact}
-use Rattle.mdcc_spelling.specs.Laws.{AreBytes, FactsHaveOneSpelling, FactsReadAreWellFormed}
-use Rattle.mdcc_steps.specs.NodeInvariant.{BootGivesNode, payloads_of}
+use Rattle.mdcc_def_protocol.specs.Belongs.{is_centre}
+use Rattle.mdcc_def_protocol.specs.Facts.{epoch_of}
+use Rattle.mdcc_def_protocol.specs.IsCluster.{IsCluster}
+use Rattle.mdcc_def_protocol.specs.Volatile.{initial_volatile}
+use Rattle.mdcc_node_log.proofs.Logged.{payloads-read}
+use Rattle.mdcc_node_log.proofs.Starts.{boot-ends, node-boots}
+use Rattle.mdcc_node_log.specs.Logged.{AreLogged}
+use Rattle.mdcc_def_rules.specs.Boot.{boot_of, next_boot}
+use Rattle.mdcc_def_rules.specs.declared.node.BootFault.{BootFault}
+use Rattle.mdcc_serve.specs.Starts.{GivesNoServer, GivesNode, boot_fault_of}
+use Rattle.mdcc_theorem_encoding.proofs.Lengths.{length-fact}
+use Rattle.mdcc_theorem_encoding.specs.Laws.{AreBytes, FactsHaveOneSpelling, FactsReadAreWellFormed}
+use Rattle.mdcc_theorem_node_steps.specs.NodeInvariant.{BootGivesNode, fact_payloads}
 
-pub empty_store : (store : CentreStore) (cluster : Cluster) → are_stored store [] → spare_of store ≡ cluster.cells → Holds are_stored spare_of needed_in (cells_of cluster) store []
+pub empty_store : (store : CentreStore) (cluster : Cluster) → are_stored store [] → spare_cells_of store ≡ cluster.cells → HoldsFacts are_stored spare_cells_of needed_in (cells_of cluster) store []
 empty_store store cluster empty spare = record { list = empty; spare = omega (spare, arith); needs = λ s fact. refl; counted = refl }
 
 module _ (one : FactsHaveOneSpelling) (well : FactsReadAreWellFormed) where
@@ -53,7 +53,7 @@ module _ (one : FactsHaveOneSpelling) (well : FactsReadAreWellFormed) where
       few n m same short = omega (same, short, arith)
   read_small p bytes short (Err fault) is fact e = absurd (cc)
 
-  each_small : (ps : List (List ℕ)) → AllByRecursion AreBytes ps → AreShort ps → AllByRecursion (λ payload. (fact : Fact) → payload ≡ Some fact → cells_needed fact < 2 ^ 63) (map fact_read ps)
+  each_small : (ps : List (List ℕ)) → AllByRecursion AreBytes ps → AreWithinFrames ps → AllByRecursion (λ payload. (fact : Fact) → payload ≡ Some fact → cells_needed fact < 2 ^ 63) (map fact_read ps)
   each_small [] bytes short = tt
   each_small (p ∷ ps) bytes short = (λ fact e. read_small p bytes.0 short.0 (fact_of p) refl fact e, each_small ps bytes.1 short.1)
 
@@ -68,7 +68,7 @@ module _ (one : FactsHaveOneSpelling) (well : FactsReadAreWellFormed) where
       by_read more (Err fault) is e = absurd (cc)
       by_read more (Ok fact) is e = elim (cases_Bool (not (is_allowed_fact cluster start fact))) [
         | inl a ↦ let bad : Err (BootFault.NotARun (n + 1)) ≡ Ok all = rw a at e in absurd (cc)
-        | inr a ↦ elim (cases_Bool (is_past cells start fact)) [
+        | inr a ↦ elim (cases_Bool (exceeds_cells cells start fact)) [
           | inl b ↦ let bad : Err (past_fault cells start fact) ≡ Ok all = rw (a, b) at e in absurd (cc)
           | inr b ↦
               let rest : loaded_by cells cluster (fact ∷ start) (n + 1) (map fact_read ps) ≡ Ok all = rw (a, b) at e in
@@ -82,11 +82,11 @@ module _ (one : FactsHaveOneSpelling) (well : FactsReadAreWellFormed) where
       → boot_by cells cluster (map fact_read ps) ≡ Ok (boot ∷ facts) → (boot ≡ next_boot facts) × (ps ≡ encodings_of facts)
   booted_spells cells cluster ps bytes boot facts e = by_loaded (loaded_by cells cluster [] 0 (map fact_read ps)) refl e
     where
-      by_loaded : (loaded : Result (List Fact) BootFault) → loaded_by cells cluster [] 0 (map fact_read ps) ≡ loaded → next_by cells loaded ≡ Ok (boot ∷ facts) → (boot ≡ next_boot facts) × (ps ≡ encodings_of facts)
+      by_loaded : (loaded : Result (List Fact) BootFault) → loaded_by cells cluster [] 0 (map fact_read ps) ≡ loaded → with_next_boot cells loaded ≡ Ok (boot ∷ facts) → (boot ≡ next_boot facts) × (ps ≡ encodings_of facts)
       by_loaded (Err fault) is e = absurd (cc)
       by_loaded (Ok all) is e = elim (cases_Bool (nat_le (2 ^ 32 - 1) (epoch_of all))) [
         | inl a ↦ let bad : Err BootFault.Epochs ≡ Ok (boot ∷ facts) = rw a at e in absurd (cc)
-        | inr a ↦ elim (cases_Bool (is_past cells all (next_boot all))) [
+        | inr a ↦ elim (cases_Bool (exceeds_cells cells all (next_boot all))) [
           | inl b ↦ let bad : Err (past_fault cells all (next_boot all)) ≡ Ok (boot ∷ facts) = rw (a, b) at e in absurd (cc)
           | inr b ↦
               let both : Ok (next_boot all ∷ all) ≡ Ok (boot ∷ facts) = rw (a, b) at e in
@@ -97,17 +97,17 @@ module _ (one : FactsHaveOneSpelling) (well : FactsReadAreWellFormed) where
       ]
 
   module _ (within : BootsWithinCells) (gives : BootGivesNode) (cluster : Cluster) (is_cluster : IsCluster cluster) (me : ℕ) (among : is_centre cluster me ≡ true)
-      (ps : List (List ℕ)) (bytes : AllByRecursion AreBytes ps) (short : AreShort ps)
+      (ps : List (List ℕ)) (bytes : AllByRecursion AreBytes ps) (short : AreWithinFrames ps)
     where
       -- its cells are those of the cluster
       protocol : boot_by (cells_of cluster) cluster (map fact_read ps) ≡ boot_of cluster (map fact_read ps)
       protocol = within (cells_of cluster) cluster (map fact_read ps) refl (λ fact. refl) (let most = is_cluster.cells in omega (most, arith)) (each_small ps bytes short)
 
       -- as it is of facts that the centre may have added
-      by_facts : (before : List Fact) → AreLogged cluster before → ps ≡ encodings_of before → map fact_read ps ≡ payloads_of before
+      by_facts : (before : List Fact) → AreLogged cluster before → ps ≡ encodings_of before → map fact_read ps ≡ fact_payloads before
       by_facts before are is = ap (λ (qs : List (List ℕ)). map fact_read qs) is ∙ payloads-read before are.well_formed
 
-      pub gives_node : (r : Node CentreStore × Fact) → Boots are_stored spare_of needed_in (cells_of cluster) (Ok r) cluster me (boot_by (cells_of cluster) cluster (map fact_read ps))
+      pub gives_node : (r : Node CentreStore × Fact) → Boots are_stored spare_cells_of needed_in (cells_of cluster) (Ok r) cluster me (boot_by (cells_of cluster) cluster (map fact_read ps))
           → GivesNode cluster me ps r.0 r.1
       gives_node r h =
           let spelled = booted_spells (cells_of cluster) cluster ps bytes r.1 h.0 h.1 in
@@ -119,16 +119,16 @@ module _ (one : FactsHaveOneSpelling) (well : FactsReadAreWellFormed) where
             boot_is = spelled.0;
             payloads_are = spelled.1;
             over = λ before are is.
-                let booted = (node-boots are_stored spare_of needed_in (cells_of cluster) cluster me before ps is are r h).3 in
+                let booted = (node-boots are_stored spare_cells_of needed_in (cells_of cluster) cluster me before ps is are r h).3 in
                 let read = ap (boot_by (cells_of cluster) cluster) (by_facts before are is) in
                 let both : Ok (r.1 ∷ h.0) ≡ Ok (next_boot before ∷ before) = sym h.1 ∙ (read ∙ booted) in
                 cc;
           }
 
-      pub gives_none : (fault : BootFault) → Boots {S = CentreStore} are_stored spare_of needed_in (cells_of cluster) (Err fault) cluster me (boot_by (cells_of cluster) cluster (map fact_read ps))
-          → GivesNone cluster me ps (boot_fault_of me fault)
+      pub gives_none : (fault : BootFault) → Boots {S = CentreStore} are_stored spare_cells_of needed_in (cells_of cluster) (Err fault) cluster me (boot_by (cells_of cluster) cluster (map fact_read ps))
+          → GivesNoServer cluster me ps (boot_fault_of me fault)
       gives_none BootFault.Memory h = inl refl
-      gives_none BootFault.Epochs h = inr (BootFault.Epochs, refl, λ before are is. boot-ends are_stored spare_of needed_in (cells_of cluster) cluster me before ps is are BootFault.Epochs h)
-      gives_none (BootFault.NotARun n) h = inr (BootFault.NotARun n, refl, λ before are is. boot-ends are_stored spare_of needed_in (cells_of cluster) cluster me before ps is are (BootFault.NotARun n) h)
+      gives_none BootFault.Epochs h = inr (BootFault.Epochs, refl, λ before are is. boot-ends are_stored spare_cells_of needed_in (cells_of cluster) cluster me before ps is are BootFault.Epochs h)
+      gives_none (BootFault.NotARun n) h = inr (BootFault.NotARun n, refl, λ before are is. boot-ends are_stored spare_cells_of needed_in (cells_of cluster) cluster me before ps is are (BootFault.NotARun n) h)
       gives_none (BootFault.Room needed all) h =
           inr (BootFault.Room needed all, refl, λ before are is. ap (boot_of cluster) (sym (by_facts before are is)) ∙ (sym protocol ∙ h))

@@ -4,16 +4,16 @@ use Rattle.std.specs.Io.KnownBytes.{Appends}
 use Rattle.std.specs.List.{AllByRecursion}
 use Rattle.std.specs.Prelude.{flat_map}
 use Rattle.mdcc_link.specs.Link.{LinkCall}
-use Rattle.mdcc_outbox.proofs.Handed.{rose_before}
-use Rattle.mdcc_outbox.proofs.Recorded.{calls_append, none_recorded, recorded_joined}
-use Rattle.mdcc_outbox.specs.Shows.{Records, calls_of}
-use Rattle.mdcc_runs.specs.Acts.{Act, printed}
+use Rattle.mdcc_serve_outbox.proofs.Handed.{rose_before}
+use Rattle.mdcc_serve_outbox.proofs.Recorded.{calls_append, none_recorded, recorded_joined}
+use Rattle.mdcc_serve_outbox.specs.Shows.{Records, calls_of}
+use Rattle.mdcc_def_server_runs.specs.Acts.{Act, printed}
 use Rattle.mdcc_serve.specs.Openings.{BindsAll, BindsSome, LinesSome}
-use Rattle.mdcc_site.proofs.Joined.{comes_more, failed_more, none_written, printed_append, text_more, written_joined}
-use Rattle.mdcc_site.specs.Causes.{failed_next, text_begun}
-use Rattle.mdcc_site.specs.Moments.{MayComeAt}
-use Rattle.mdcc_site.specs.SiteState.{PrintsAll, PrintsSome}
-use Rattle.mdcc_site.specs.declared.fault.ServeFault.{ServeFault}
+use Rattle.mdcc_serve_site.proofs.Joined.{comes_more, failed_more, none_written, printed_append, text_more, written_joined}
+use Rattle.mdcc_serve_site.specs.Causes.{failed_next, text_begun}
+use Rattle.mdcc_serve_site.specs.Moments.{MayComeAt}
+use Rattle.mdcc_serve_site.specs.SiteState.{PrintsAll, PrintsSome}
+use Rattle.mdcc_serve_site.specs.declared.fault.ServeFault.{ServeFault}
 
 -- ---- the acts of items one after another
 

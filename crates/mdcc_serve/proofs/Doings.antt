@@ -2,13 +2,13 @@
 use Rattle.std.proofs.Common.{◌≡◌, ℕ, ◌≤◌, ◌<◌, List, [], ◌∷◌, ◌++◌, length, refl, sym, ◌∙◌, ap, subst, arith, append_assoc}
 use Rattle.std.specs.List.{AllByRecursion}
 use Rattle.mdcc_config.specs.declared.config.Config.{Config}
-use Rattle.mdcc_runs.specs.Acts.{Act}
-use Rattle.mdcc_runs.specs.Sending.{persist_then_send}
-use Rattle.mdcc_runs.specs.Servers.{Server, persist_all_then_send, turns_of}
-use Rattle.mdcc_runs.specs.Sites.{Doing, Site}
-use Rattle.mdcc_runs.specs.Turns.{Given, turn_of}
+use Rattle.mdcc_def_server_runs.specs.Acts.{Act}
+use Rattle.mdcc_def_server_runs.specs.Sending.{persist_then_send}
+use Rattle.mdcc_def_server_runs.specs.Servers.{Server, persist_all_then_send, turns_of}
+use Rattle.mdcc_def_server_runs.specs.Sites.{Doing, Site}
+use Rattle.mdcc_def_server_runs.specs.Turns.{Given, turn_of}
 use Rattle.mdcc_serve.specs.Centres.{Ascend}
-use Rattle.mdcc_site.proofs.Owns.{IsWhole, Owns, persist_owns, turn_owns}
+use Rattle.mdcc_serve_site.proofs.Owns.{IsWhole, Owns, persist_owns, turn_owns}
 
 -- ---- what each does
 

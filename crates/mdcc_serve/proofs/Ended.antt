@@ -10,20 +10,20 @@ use Rattle.mdcc_config.specs.declared.config.Config.{Config}
 use Rattle.mdcc_disks.specs.Disks.{Disk, Only}
 use Rattle.mdcc_log.specs.Frames.{OpenAreas}
 use Rattle.mdcc_link.specs.Link.{LinkCall}
-use Rattle.mdcc_messages.specs.Spelling.{encodings_of}
-use Rattle.mdcc_messages.specs.declared.facts.Fact.{Fact}
+use Rattle.mdcc_def_messages.specs.Spelling.{encodings_of}
+use Rattle.mdcc_def_messages.specs.declared.facts.Fact.{Fact}
 use Rattle.mdcc_option.specs.declared.cluster.Cluster.{Cluster}
-use Rattle.mdcc_outbox.proofs.Recorded.{answers_append, none_recorded}
-use Rattle.mdcc_outbox.specs.Shows.{Records, counted}
-use Rattle.mdcc_centre.proofs.Places.{from_both}
-use Rattle.mdcc_centre.proofs.Struck.{rest_areas}
-use Rattle.mdcc_rules.specs.Boot.{next_boot}
-use Rattle.mdcc_runs.specs.Acts.{Act, but_answers, dropped_in, lost_in, printed, steps_in}
-use Rattle.mdcc_runs.specs.Sending.{persist_then_send}
-use Rattle.mdcc_runs.specs.Servers.{Log, Server, after_last, after_turn, boot_line, bound_at, endpoints_of, opened, persist_all_then_send, served, site_of, starts, turns_of}
-use Rattle.mdcc_runs.specs.Sites.{Doing, Site}
-use Rattle.mdcc_runs.specs.Turns.{Given, turn_of}
-use Rattle.mdcc_runs.specs.declared.lines.ServerLine.{ServerLine}
+use Rattle.mdcc_serve_outbox.proofs.Recorded.{answers_append, none_recorded}
+use Rattle.mdcc_serve_outbox.specs.Shows.{Records, count_limited}
+use Rattle.mdcc_node_log.proofs.Places.{from_both}
+use Rattle.mdcc_node_log.proofs.Struck.{rest_areas}
+use Rattle.mdcc_def_rules.specs.Boot.{next_boot}
+use Rattle.mdcc_def_server_runs.specs.Acts.{Act, but_answers, dropped_in, lost_in, printed, steps_in}
+use Rattle.mdcc_def_server_runs.specs.Sending.{persist_then_send}
+use Rattle.mdcc_def_server_runs.specs.Servers.{Log, Server, after_last, after_turn, boot_line, bound_at, endpoints_of, opened, persist_all_then_send, served, site_of, starts, turns_of}
+use Rattle.mdcc_def_server_runs.specs.Sites.{Doing, Site}
+use Rattle.mdcc_def_server_runs.specs.Turns.{Given, turn_of}
+use Rattle.mdcc_def_server_runs.specs.declared.lines.ServerLine.{ServerLine}
 use Rattle.mdcc_serve.proofs.Doings.{AllWhole}
 use Rattle.mdcc_serve.proofs.Kept.{facts_or_more}
 use Rattle.mdcc_serve.proofs.Last.{last_grew, last_logs, last_told}
@@ -35,22 +35,22 @@ use Rattle.mdcc_serve.proofs.Started.{comes_told, none_refused}
 use Rattle.mdcc_serve.specs.Centres.{AllFinish, AllLogs, AllStop, AllTold, Ascend, HoldSites, Places, TurnsStop, all_seen, places}
 use Rattle.mdcc_serve.specs.Ends.{AllButEnd, AllEnd, AllMade, SerialsFit, last_act}
 use Rattle.mdcc_serve.specs.Openings.{FailsToOpen, HasOpened, KeepLogs}
-use Rattle.mdcc_serve.specs.Others.{IsElsewhere, IsUnserved, KeepsElsewhere, KeepsUnserved}
+use Rattle.mdcc_serve.specs.Others.{IsNoDiskOfSites, IsUnserved, KeepsElsewhere, KeepsUnserved}
 use Rattle.mdcc_serve.specs.Serving.{AreLogsOf, BreaksOff, HasSerials, Serves, ServesOrBreaksOff}
 use Rattle.mdcc_serve.specs.Stages.{InPart, StopsAt, after_turns, done_line}
 use Rattle.mdcc_serve.specs.Starts.{Follow}
 use Rattle.mdcc_serve.specs.Totals.{counts_of, done_of}
 use Rattle.mdcc_serve.specs.declared.served.Served.{Served}
-use Rattle.mdcc_site.proofs.Going.{comes_under}
-use Rattle.mdcc_site.proofs.Joined.{caused_later, did_broke, did_then, facts_expected, facts_then, leaves_then, none_added, passes_then}
-use Rattle.mdcc_site.proofs.Owns.{turn_owns}
-use Rattle.mdcc_site.specs.Causes.{BootsRefused, ComesAt, IsNoBoot, failed_by, in_flight, text_begun}
-use Rattle.mdcc_site.specs.Logs.{KeepsFacts, MayHaveFacts, facts_after}
-use Rattle.mdcc_site.specs.Moments.{Adds, Broke, Caused, Did, Leaves, Moment, Outside, Passes}
-use Rattle.mdcc_site.specs.Room.{OnFull}
-use Rattle.mdcc_site.specs.SiteState.{HoldsLog, OnSerial, PrintsAll, PrintsSome}
-use Rattle.mdcc_site.specs.declared.fault.ServeFault.{ServeFault}
-use Rattle.mdcc_site.specs.declared.site.Site.{Site as TheSite}
+use Rattle.mdcc_serve_site.proofs.Going.{comes_under}
+use Rattle.mdcc_serve_site.proofs.Joined.{caused_later, did_broke, did_then, facts_expected, facts_then, leaves_then, none_added, passes_then}
+use Rattle.mdcc_serve_site.proofs.Owns.{turn_owns}
+use Rattle.mdcc_serve_site.specs.Causes.{BootsRefused, ComesAt, IsNoBoot, failed_by, in_flight, text_begun}
+use Rattle.mdcc_serve_site.specs.Logs.{KeepsFacts, MayHaveFacts, facts_after}
+use Rattle.mdcc_serve_site.specs.Moments.{Adds, Broke, Caused, Did, Leaves, Moment, Outside, Passes}
+use Rattle.mdcc_serve_site.specs.Room.{OnFull}
+use Rattle.mdcc_serve_site.specs.SiteState.{HoldsLog, OnSerial, PrintsAll, PrintsSome}
+use Rattle.mdcc_serve_site.specs.declared.fault.ServeFault.{ServeFault}
+use Rattle.mdcc_serve_site.specs.declared.site.Site.{Site as TheSite}
 
 -- ---- acts that no link has answered
 
@@ -283,15 +283,15 @@ module _ {D L O : Type 0} (w : Outside D L O) where
   }
 
   -- it says what was counted
-  from_none : (n more : ℕ) → Adds n 0 more → counted more ≡ counted n
-  from_none n more adds = adds ∙ ap counted (zero-add n)
+  from_none : (n more : ℕ) → Adds n 0 more → count_limited more ≡ count_limited n
+  from_none n more adds = adds ∙ ap count_limited (zero-add n)
 
-  line_is : (turns : ℕ) (held : List TheSite) (acts : List Act) → counted (sum_over (λ h. h.steps) held) ≡ counted (steps_in acts) → counted (sum_over (λ h. h.dropped) held) ≡ counted (dropped_in acts)
-      → counted (sum_over (λ h. h.sender.lost) held) ≡ counted (lost_in acts) → done_of (counts_of turns held) ≡ done_line turns acts
+  line_is : (turns : ℕ) (held : List TheSite) (acts : List Act) → count_limited (sum_over (λ h. h.steps) held) ≡ count_limited (steps_in acts) → count_limited (sum_over (λ h. h.dropped) held) ≡ count_limited (dropped_in acts)
+      → count_limited (sum_over (λ h. h.sender.lost) held) ≡ count_limited (lost_in acts) → done_of (counts_of turns held) ≡ done_line turns acts
   line_is turns held acts steps dropped lost =
-      ap (λ (n : ℕ). ServerLine.Done turns n (counted (sum_over (λ h. h.dropped) held)) (counted (sum_over (λ h. h.sender.lost) held))) steps
-      ∙ (ap (λ (n : ℕ). ServerLine.Done turns (counted (steps_in acts)) n (counted (sum_over (λ h. h.sender.lost) held))) dropped
-      ∙ ap (λ (n : ℕ). ServerLine.Done turns (counted (steps_in acts)) (counted (dropped_in acts)) n) lost)
+      ap (λ (n : ℕ). ServerLine.Done turns n (count_limited (sum_over (λ h. h.dropped) held)) (count_limited (sum_over (λ h. h.sender.lost) held))) steps
+      ∙ (ap (λ (n : ℕ). ServerLine.Done turns (count_limited (steps_in acts)) n (count_limited (sum_over (λ h. h.sender.lost) held))) dropped
+      ∙ ap (λ (n : ℕ). ServerLine.Done turns (count_limited (steps_in acts)) (count_limited (dropped_in acts)) n) lost)
 
   -- ---- a prefix of the acts was done
 
@@ -523,9 +523,9 @@ module _ {D L O : Type 0} (w : Outside D L O) where
   serve_others config first last turns result old mid new has end =
       let sites = map site_of has.logs in
       let each = end sites has.finish.stand has.ascend in
-      keeps_fewer w.disk w.may_leave (IsElsewhere sites) (IsUnserved first (last + 1)) old.disks new.disks
+      keeps_fewer w.disk w.may_leave (IsNoDiskOfSites sites) (IsUnserved first (last + 1)) old.disks new.disks
       (λ p is. unserved_logs first (last + 1) p has.logs has.follow (let many = has.many in omega (many, arith)) is)
-      (keeps_then w.disk w.may_leave (IsElsewhere sites) old.disks mid.disks new.disks has.finish.others (end_others config sites turns result mid new each))
+      (keeps_then w.disk w.may_leave (IsNoDiskOfSites sites) old.disks mid.disks new.disks has.finish.others (end_others config sites turns result mid new each))
 
   -- ---- why it ended
 

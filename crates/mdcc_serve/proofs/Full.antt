@@ -2,17 +2,17 @@
 use Rattle.std.proofs.Common.{◌≡◌, ◌∙◌, ℕ, ◌+◌, List, Option, Result, Ok, Err, IsTrue, refl, subst, sym}
 use Rattle.std.specs.Prelude.{IsErrAnd, is_ok}
 use Rattle.mdcc_disks.specs.Disks.{Disk}
-use Rattle.mdcc_endings.specs.Logs.{LogRefusal, node_at}
+use Rattle.mdcc_command_endings.specs.Logs.{LogRefusal, node_booted_at}
 use Rattle.mdcc_link.specs.Link.{LinkCall}
 use Rattle.mdcc_log_file.specs.declared.fault.LogFault.{LogFault}
-use Rattle.mdcc_messages.specs.declared.facts.Fact.{Fact}
+use Rattle.mdcc_def_messages.specs.declared.facts.Fact.{Fact}
 use Rattle.mdcc_option.specs.declared.cluster.Cluster.{Cluster}
 use Rattle.mdcc_serve.proofs.Together.{untouched_log}
 use Rattle.mdcc_serve.proofs.Untaken.{not_ok}
 use Rattle.mdcc_serve.specs.Refusals.{AllBoot, LacksNode, SaysAt}
 use Rattle.mdcc_serve.specs.Starts.{FailsToStart, IsUntouched}
-use Rattle.mdcc_serve.specs.Stays.{AllStay, NeverServed, OnFullBoot, UnlessDisk}
-use Rattle.mdcc_site.specs.declared.fault.ServeFault.{ServeFault}
+use Rattle.mdcc_serve.specs.Stays.{AllStay, NeverServed, OnFullBoot, UnlessDiskFault}
+use Rattle.mdcc_serve_site.specs.declared.fault.ServeFault.{ServeFault}
 
 module _ {D : Type 0} (disk : D → ℕ → Disk) (may_leave : D → ℕ → List ℕ → Type 0) (every : ℕ) (cluster : Cluster) (old mid new : D) (b : ℕ) (tears : ℕ → Type 0) where
   -- the start of the centre of this number ended, to whose log nothing was done before
@@ -35,4 +35,4 @@ module _ {D : Type 0} (disk : D → ℕ → Disk) (may_leave : D → ℕ → Lis
 -- ---- where no node boots from one of the logs
 
 pub lacks_none : {D : Type 0} (disk : D → ℕ → Disk) (cluster : Cluster) (disks : D) (first end : ℕ) → LacksNode disk cluster disks first end → AllBoot disk cluster disks first end → ⊥
-lacks_none disk cluster disks first end lacks all = not_ok (node_at disk cluster disks lacks.at) lacks.why lacks.is (all lacks.at lacks.from lacks.to lacks.told)
+lacks_none disk cluster disks first end lacks all = not_ok (node_booted_at disk cluster disks lacks.at) lacks.why lacks.is (all lacks.at lacks.from lacks.to lacks.told)

@@ -4,15 +4,15 @@ use Rattle.mdcc_log_file.specs.Area.{AreaLog}
 use Rattle.mdcc_log.specs.AtRest.{IsAtRest}
 use Rattle.mdcc_log.specs.Frames.{IsInUse, IsSpare, OpenAreas, other_of, place_of}
 use Rattle.mdcc_disks.specs.Disks.{Disk, Within}
-use Rattle.mdcc_messages.specs.Spelling.{encodings_of}
-use Rattle.mdcc_messages.specs.declared.facts.Fact.{Fact}
+use Rattle.mdcc_def_messages.specs.Spelling.{encodings_of}
+use Rattle.mdcc_def_messages.specs.declared.facts.Fact.{Fact}
 use Rattle.mdcc_option.specs.declared.cluster.Cluster.{Cluster}
-use Rattle.mdcc_centre.proofs.Places.{at_both}
-use Rattle.mdcc_runs.specs.Sites.{Site}
-use Rattle.mdcc_site.specs.Logs.{MayHaveFacts}
-use Rattle.mdcc_site.specs.Moments.{DiskPasses, KeepsOthers, Outside}
-use Rattle.mdcc_site.specs.SiteState.{HoldsLog, HoldsSite}
-use Rattle.mdcc_site.specs.declared.site.Site.{Site as TheSite}
+use Rattle.mdcc_node_log.proofs.Places.{at_both}
+use Rattle.mdcc_def_server_runs.specs.Sites.{Site}
+use Rattle.mdcc_serve_site.specs.Logs.{MayHaveFacts}
+use Rattle.mdcc_serve_site.specs.Moments.{DiskPasses, KeepsOthers, Outside}
+use Rattle.mdcc_serve_site.specs.SiteState.{HoldsLog, HoldsSite}
+use Rattle.mdcc_serve_site.specs.declared.site.Site.{Site as TheSite}
 
 -- no place of one centre is one of the other
 pub record AreApart (a b : ℕ) : Type 0 where

@@ -4,16 +4,16 @@ use Rattle.std.proofs.lemmas.List.{length-replicate}
 use Rattle.std.specs.List.{AllByRecursion}
 use Rattle.mdcc_config.specs.declared.config.Config.{Config}
 use Rattle.mdcc_option.specs.declared.cluster.Cluster.{Cluster}
-use Rattle.mdcc_runs.specs.Sending.{persist_then_send}
-use Rattle.mdcc_runs.specs.Servers.{Server, after_last, persist_all_then_send}
-use Rattle.mdcc_runs.specs.Sites.{Site}
+use Rattle.mdcc_def_server_runs.specs.Sending.{persist_then_send}
+use Rattle.mdcc_def_server_runs.specs.Servers.{Server, after_last, persist_all_then_send}
+use Rattle.mdcc_def_server_runs.specs.Sites.{Site}
 use Rattle.mdcc_serve.proofs.Doings.{AllWhole, each_does, end_of, ends_are, ends_own}
 use Rattle.mdcc_serve.proofs.Repeated.{Grew, each_grew, grew_more, others_on, stop_then}
 use Rattle.mdcc_serve.specs.Centres.{AllFinish, AllStop, AllTold, Ascend, EndStops, Places}
-use Rattle.mdcc_site.proofs.Joined.{did_then}
-use Rattle.mdcc_site.proofs.Owns.{persist_logs}
-use Rattle.mdcc_site.specs.Moments.{Outside}
-use Rattle.mdcc_site.specs.declared.fault.ServeFault.{ServeFault}
+use Rattle.mdcc_serve_site.proofs.Joined.{did_then}
+use Rattle.mdcc_serve_site.proofs.Owns.{persist_logs}
+use Rattle.mdcc_serve_site.specs.Moments.{Outside}
+use Rattle.mdcc_serve_site.specs.declared.fault.ServeFault.{ServeFault}
 
 -- one for each
 abbrev units : List Site → List (Unit {0})

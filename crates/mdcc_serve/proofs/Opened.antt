@@ -4,18 +4,18 @@ use Rattle.std.proofs.lemmas.Bool.{cases_eq}
 use Rattle.mdcc_log_file.specs.Area.{payloads}
 use Rattle.mdcc_log_file.specs.Both.{KeepsBut}
 use Rattle.mdcc_disks.specs.Disks.{Disk, Within}
-use Rattle.mdcc_endings.specs.Logs.{IsTold}
-use Rattle.mdcc_messages.specs.Spelling.{encodings_of}
-use Rattle.mdcc_messages.specs.declared.facts.Fact.{Fact}
+use Rattle.mdcc_command_endings.specs.Logs.{AreAreasTold}
+use Rattle.mdcc_def_messages.specs.Spelling.{encodings_of}
+use Rattle.mdcc_def_messages.specs.declared.facts.Fact.{Fact}
 use Rattle.mdcc_option.specs.declared.cluster.Cluster.{Cluster}
-use Rattle.mdcc_runs.specs.Servers.{Log}
+use Rattle.mdcc_def_server_runs.specs.Servers.{Log}
 use Rattle.mdcc_serve.specs.Serving.{IsDurable}
 use Rattle.mdcc_serve.specs.Starts.{FailsToStart}
 use Rattle.mdcc_serve.specs.Stays.{LogStays, MayHaveBoot}
-use Rattle.mdcc_site.proofs.Logged.{disks_same, others_same}
-use Rattle.mdcc_site.specs.Logs.{MayHaveFacts}
-use Rattle.mdcc_site.specs.Moments.{DiskPasses, KeepsOthers}
-use Rattle.mdcc_site.specs.declared.fault.ServeFault.{ServeFault}
+use Rattle.mdcc_serve_site.proofs.Logged.{disks_same, others_same}
+use Rattle.mdcc_serve_site.specs.Logs.{MayHaveFacts}
+use Rattle.mdcc_serve_site.specs.Moments.{DiskPasses, KeepsOthers}
+use Rattle.mdcc_serve_site.specs.declared.fault.ServeFault.{ServeFault}
 
 -- ---- the areas of a centre by its number
 
@@ -63,7 +63,7 @@ log_stays_since disk may_leave tears cluster old mid new a here there crash cras
     same : payloads (disk mid a).bytes (disk mid (a + 16)).bytes ≡ payloads (disk old a).bytes (disk old (a + 16)).bytes
     same = ap (λ (d : Disk). payloads d.bytes (disk mid (a + 16)).bytes) here ∙ ap (λ (d : Disk). payloads (disk old a).bytes d.bytes) there
 
-    told_still : IsTold disk old a → IsTold disk mid a
+    told_still : AreAreasTold disk old a → AreAreasTold disk mid a
     told_still told = record { first = subst (λ (d : Disk). IsTrue d.told) (sym here) told.first; second = subst (λ (d : Disk). IsTrue d.told) (sym there) told.second }
 
 -- ---- calls at the two places of a centre

@@ -1,22 +1,22 @@
 -- What stays of the disks of centres that are not served.
 use Rattle.std.proofs.Common.{◌≡◌, ℕ, ◌+◌, ◌≤◌, List, [], ◌∷◌, ◌++◌, length, refl, ◌∙◌, subst, arith}
 use Rattle.mdcc_disks.specs.Disks.{Disk}
-use Rattle.mdcc_runs.specs.Servers.{Log, starts}
-use Rattle.mdcc_runs.specs.Sites.{Site}
+use Rattle.mdcc_def_server_runs.specs.Servers.{Log, starts}
+use Rattle.mdcc_def_server_runs.specs.Sites.{Site}
 use Rattle.mdcc_serve.proofs.Doings.{each_back}
-use Rattle.mdcc_serve.specs.Others.{IsElsewhere, IsNoDiskOf, IsUnserved, KeepsDisks}
+use Rattle.mdcc_serve.specs.Others.{IsNoDiskOf, IsNoDiskOfSites, IsUnserved, KeepsDisks}
 use Rattle.mdcc_serve.specs.Starts.{Follow}
-use Rattle.mdcc_site.specs.Moments.{KeepsOthers}
+use Rattle.mdcc_serve_site.specs.Moments.{KeepsOthers}
 
 -- ---- which disks they are
 
 -- no disk of one of them
-pub elsewhere_in : (sites front : List Site) (site : Site) (back : List Site) (p : ℕ) → sites ≡ front ++ site ∷ back → IsElsewhere sites p → IsNoDiskOf p site.centre
+pub elsewhere_in : (sites front : List Site) (site : Site) (back : List Site) (p : ℕ) → sites ≡ front ++ site ∷ back → IsNoDiskOfSites sites p → IsNoDiskOf p site.centre
 elsewhere_in sites front site back p are is =
-    (each_back (λ (s : Site). IsNoDiskOf p s.centre) front (site ∷ back) (subst (λ (all : List Site). IsElsewhere all p) are is)).0
+    (each_back (λ (s : Site). IsNoDiskOf p s.centre) front (site ∷ back) (subst (λ (all : List Site). IsNoDiskOfSites all p) are is)).0
 
 -- of centres whose numbers are among these
-pub unserved_logs : (first end p : ℕ) (logs : List Log) → Follow first logs → first + length logs ≤ end → IsUnserved first end p → IsElsewhere (starts logs).sites p
+pub unserved_logs : (first end p : ℕ) (logs : List Log) → Follow first logs → first + length logs ≤ end → IsUnserved first end p → IsNoDiskOfSites (starts logs).sites p
 unserved_logs first end p [] follow few is = tt
 unserved_logs first end p (log ∷ logs) follow few is =
     let e = follow.0 in (

@@ -5,22 +5,22 @@ use Rattle.std.specs.Prelude.{flat_map, ⊤}
 use Rattle.mdcc_base.specs.declared.outside.Address.{Address}
 use Rattle.mdcc_config.specs.IsConfig.{address_above}
 use Rattle.mdcc_config.specs.declared.config.Config.{Config}
-use Rattle.mdcc_messages.specs.declared.facts.Fact.{Fact}
-use Rattle.mdcc_outbox.proofs.Recorded.{answers_append, failed_append, lost_append}
-use Rattle.mdcc_outbox.specs.Shows.{calls_of, failed_in}
-use Rattle.mdcc_rules.specs.Boot.{next_boot}
-use Rattle.mdcc_runs.specs.Acts.{Act, appended, but_answers, dropped_in, lost_in, printed, steps_in}
-use Rattle.mdcc_runs.specs.Servers.{Log, boot_line, bound_at, endpoints_of, opened, starts}
-use Rattle.mdcc_runs.specs.Sites.{Site}
-use Rattle.mdcc_runs.specs.declared.lines.ServerLine.{ServerLine}
+use Rattle.mdcc_def_messages.specs.declared.facts.Fact.{Fact}
+use Rattle.mdcc_serve_outbox.proofs.Recorded.{answers_append, failed_append, lost_append}
+use Rattle.mdcc_serve_outbox.specs.Shows.{calls_of, failed_in}
+use Rattle.mdcc_def_rules.specs.Boot.{next_boot}
+use Rattle.mdcc_def_server_runs.specs.Acts.{Act, but_answers, dropped_in, facts_appended, lost_in, printed, steps_in}
+use Rattle.mdcc_def_server_runs.specs.Servers.{Log, boot_line, bound_at, endpoints_of, opened, starts}
+use Rattle.mdcc_def_server_runs.specs.Sites.{Site}
+use Rattle.mdcc_def_server_runs.specs.declared.lines.ServerLine.{ServerLine}
 use Rattle.mdcc_serve.proofs.Together.{each_both, each_by, follow_back, not_is}
 use Rattle.mdcc_serve.specs.Openings.{binds_of, binds_of_all, boots_told}
 use Rattle.mdcc_serve.specs.Starts.{Follow}
-use Rattle.mdcc_site.proofs.Joined.{appended_append, dropped_append, steps_append}
-use Rattle.mdcc_site.proofs.Logged.{same_is}
-use Rattle.mdcc_site.specs.Logs.{facts_after, with_facts}
-use Rattle.mdcc_site.specs.declared.site.Site.{Site as TheSite}
-use Rattle.mdcc_steps.proofs.Each.{each-append}
+use Rattle.mdcc_serve_site.proofs.Joined.{appended_append, dropped_append, steps_append}
+use Rattle.mdcc_serve_site.proofs.Logged.{same_is}
+use Rattle.mdcc_serve_site.specs.Logs.{facts_after, with_facts}
+use Rattle.mdcc_serve_site.specs.declared.site.Site.{Site as TheSite}
+use Rattle.mdcc_theorem_node_steps.proofs.Each.{each-append}
 
 -- ---- acts that the link does not answer, and that are not counted
 
@@ -67,7 +67,7 @@ IsBind _ = ⊥
 pub record AreBinds (acts : List Act) : Type 0 where
   pub plain : IsPlain acts
   pub prints : printed acts ≡ []
-  pub appends : (c : ℕ) → appended c acts ≡ []
+  pub appends : (c : ℕ) → facts_appended c acts ≡ []
 
 pub are_binds : (acts : List Act) → AllByRecursion IsBind acts → AreBinds acts
 are_binds [] each = record { plain = plain_none; prints = refl; appends = λ c. refl }
@@ -109,7 +109,7 @@ IsPrint _ = ⊥
 pub record AreLines (acts : List Act) : Type 0 where
   pub plain : IsPlain acts
   pub calls : calls_of acts ≡ []
-  pub appends : (c : ℕ) → appended c acts ≡ []
+  pub appends : (c : ℕ) → facts_appended c acts ≡ []
 
 pub are_lines : (acts : List Act) → AllByRecursion IsPrint acts → AreLines acts
 are_lines [] each = record { plain = plain_none; calls = refl; appends = λ c. refl }
@@ -146,12 +146,12 @@ are_boots (log ∷ logs) =
     let rest = are_boots logs in
     record { plain = plain_then (Act.Append log.centre (next_boot log.facts ∷ []) ∷ []) (starts logs).acts (plain_append log.centre (next_boot log.facts ∷ [])) rest.plain; calls = rest.calls; prints = rest.prints }
 
-quiet_below : (n c : ℕ) (logs : List Log) → Follow n logs → c < n → appended c (starts logs).acts ≡ []
+quiet_below : (n c : ℕ) (logs : List Log) → Follow n logs → c < n → facts_appended c (starts logs).acts ≡ []
 quiet_below n c [] f low = refl
 quiet_below n c (x ∷ xs) f low = let e = f.0 in rw (not_is x.centre c (λ is. absurd (omega (e, is, low, arith)))) (quiet_below (n + 1) c xs f.1 (omega (low, arith)))
 
 -- each log gets its own boot
-each_boot : (n : ℕ) (logs : List Log) → Follow n logs → AllByRecursion (λ log. appended log.centre (starts logs).acts ≡ next_boot log.facts ∷ []) logs
+each_boot : (n : ℕ) (logs : List Log) → Follow n logs → AllByRecursion (λ log. facts_appended log.centre (starts logs).acts ≡ next_boot log.facts ∷ []) logs
 each_boot n [] f = tt
 each_boot n (x ∷ xs) f = (
   rw (same_is x.centre) (ap (λ (fs : List Fact). next_boot x.facts ∷ fs) (quiet_below (n + 1) x.centre xs f.1 (let e = f.0 in omega (e, arith)))),
@@ -163,11 +163,11 @@ each_boot n (x ∷ xs) f = (
 pub opened_facts : (config : Config) (first : ℕ) (logs : List Log) → Follow first logs → AllByRecursion (λ log. facts_after log.centre log.facts (opened config logs).acts ≡ next_boot log.facts ∷ log.facts) logs
 opened_facts config first logs follow = each_by _ _ logs (each_boot first logs follow) (λ log h. ap (with_facts log.facts) (all log.centre (next_boot log.facts) h))
   where
-    all : (c : ℕ) (boot : Fact) → appended c (starts logs).acts ≡ boot ∷ [] → appended c (opened config logs).acts ≡ boot ∷ []
+    all : (c : ℕ) (boot : Fact) → facts_appended c (starts logs).acts ≡ boot ∷ [] → facts_appended c (opened config logs).acts ≡ boot ∷ []
     all c boot is =
         let more : List Act = flat_map (endpoints_of config) (starts logs).sites ++ flat_map boot_line (starts logs).sites in
         appended_append c (starts logs).acts more
-        ∙ (ap (λ (fs : List Fact). fs ++ appended c more) is
+        ∙ (ap (λ (fs : List Fact). fs ++ facts_appended c more) is
         ∙ ap (λ (fs : List Fact). boot ∷ fs) (appended_append c (flat_map (endpoints_of config) (starts logs).sites) (flat_map boot_line (starts logs).sites)
-        ∙ (ap (λ (fs : List Fact). fs ++ appended c (flat_map boot_line (starts logs).sites)) ((are_binds (flat_map (endpoints_of config) (starts logs).sites) (sites_bind config (starts logs).sites)).appends c)
+        ∙ (ap (λ (fs : List Fact). fs ++ facts_appended c (flat_map boot_line (starts logs).sites)) ((are_binds (flat_map (endpoints_of config) (starts logs).sites) (sites_bind config (starts logs).sites)).appends c)
         ∙ (are_lines (flat_map boot_line (starts logs).sites) (sites_print (starts logs).sites)).appends c)))

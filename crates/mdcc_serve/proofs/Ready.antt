@@ -8,15 +8,15 @@ use Rattle.mdcc_base.specs.Counts.{sum_over}
 use Rattle.mdcc_config.specs.declared.config.Config.{Config}
 use Rattle.mdcc_disks.specs.Disks.{Disk}
 use Rattle.mdcc_link.specs.Link.{LinkCall}
-use Rattle.mdcc_messages.specs.declared.facts.Fact.{Fact}
+use Rattle.mdcc_def_messages.specs.declared.facts.Fact.{Fact}
 use Rattle.mdcc_option.specs.declared.cluster.Cluster.{Cluster}
-use Rattle.mdcc_outbox.proofs.Recorded.{none_recorded}
-use Rattle.mdcc_outbox.specs.Shows.{Records, calls_of}
-use Rattle.mdcc_protocol.specs.Facts.{epoch_of}
-use Rattle.mdcc_rules.specs.Boot.{next_boot}
-use Rattle.mdcc_runs.specs.Acts.{Act, appended, but_answers, printed}
-use Rattle.mdcc_runs.specs.Servers.{Log, boot_line, endpoints_of, opened, starts}
-use Rattle.mdcc_runs.specs.declared.lines.ServerLine.{ServerLine}
+use Rattle.mdcc_serve_outbox.proofs.Recorded.{none_recorded}
+use Rattle.mdcc_serve_outbox.specs.Shows.{Records, calls_of}
+use Rattle.mdcc_def_protocol.specs.Facts.{epoch_of}
+use Rattle.mdcc_def_rules.specs.Boot.{next_boot}
+use Rattle.mdcc_def_server_runs.specs.Acts.{Act, but_answers, facts_appended, printed}
+use Rattle.mdcc_def_server_runs.specs.Servers.{Log, boot_line, endpoints_of, opened, starts}
+use Rattle.mdcc_def_server_runs.specs.declared.lines.ServerLine.{ServerLine}
 use Rattle.mdcc_serve.proofs.Kept.{facts_or_more}
 use Rattle.mdcc_serve.proofs.Others.{keeps_fewer, unserved_logs}
 use Rattle.mdcc_serve.proofs.Quiet.{AreBinds, AreLines, IsBind, IsPlain, IsPrint, acts_front, all_bind, all_print, are_binds, are_boots, are_lines}
@@ -24,18 +24,18 @@ use Rattle.mdcc_serve.proofs.Started.{none_refused}
 use Rattle.mdcc_serve.proofs.Together.{boots_append, each_both, each_by, follow_front}
 use Rattle.mdcc_serve.specs.Centres.{Ascend, HoldSites, all_seen, places}
 use Rattle.mdcc_serve.specs.Openings.{BindsAll, BindsSome, FailsToOpen, HasOpened, KeepLogs, LinesSome, StopsOpening, binds_of, binds_of_all, boots_told}
-use Rattle.mdcc_serve.specs.Others.{IsElsewhere, IsUnserved, KeepsUnserved}
+use Rattle.mdcc_serve.specs.Others.{IsNoDiskOfSites, IsUnserved, KeepsUnserved}
 use Rattle.mdcc_serve.specs.Serving.{AreLogsOf}
 use Rattle.mdcc_serve.specs.Starts.{AreHeld, FailToStart, Follow, HaveStarted, IsOfStart}
-use Rattle.mdcc_site.proofs.Joined.{broke_more, comes_more, did_broke, did_then, facts_expected, facts_then, flight_more, full_more, none_added, none_written}
-use Rattle.mdcc_site.specs.Causes.{ComesAt, IsNoBoot, IsSafeAt, IsSafeIn, failed_by, failed_next, in_flight, text_begun}
-use Rattle.mdcc_site.specs.LogEffects.{CausedOn}
-use Rattle.mdcc_site.specs.Logs.{MayHaveFacts, facts_after, with_facts}
-use Rattle.mdcc_site.specs.Moments.{Adds, Broke, Caused, Did, DiskPasses, Leaves, MayComeAt, Moment, Outside, Passes}
-use Rattle.mdcc_site.specs.Room.{OnFull}
-use Rattle.mdcc_site.specs.SiteState.{OnSerial, PrintsAll}
-use Rattle.mdcc_site.specs.declared.fault.ServeFault.{ServeFault}
-use Rattle.mdcc_site.specs.declared.site.Site.{Site as TheSite}
+use Rattle.mdcc_serve_site.proofs.Joined.{broke_more, comes_more, did_broke, did_then, facts_expected, facts_then, flight_more, full_more, none_added, none_written}
+use Rattle.mdcc_serve_site.specs.Causes.{ComesAt, IsNoBoot, IsSafeAt, IsSafeIn, failed_by, failed_next, in_flight, text_begun}
+use Rattle.mdcc_serve_site.specs.LogEffects.{CausedOn}
+use Rattle.mdcc_serve_site.specs.Logs.{MayHaveFacts, facts_after, with_facts}
+use Rattle.mdcc_serve_site.specs.Moments.{Adds, Broke, Caused, Did, DiskPasses, Leaves, MayComeAt, Moment, Outside, Passes}
+use Rattle.mdcc_serve_site.specs.Room.{OnFull}
+use Rattle.mdcc_serve_site.specs.SiteState.{OnSerial, PrintsAll}
+use Rattle.mdcc_serve_site.specs.declared.fault.ServeFault.{ServeFault}
+use Rattle.mdcc_serve_site.specs.declared.site.Site.{Site as TheSite}
 
 -- ---- where a fault comes, with more after it
 
@@ -230,7 +230,7 @@ module _ {D L O : Type 0} (w : Outside D L O) where
 
   -- it appended nothing
   abbrev Silent : List Act → List Act → Type 0
-  Silent acts rest = (c : ℕ) → appended c acts ≡ []
+  Silent acts rest = (c : ℕ) → facts_appended c acts ≡ []
 
   broke_binding : (acts : List Act) (fault : ServeFault) (disks : D) (link new_link : L) (out : O) → AllByRecursion IsBind acts → BindsSome w.calls w.lost w.faults acts fault link new_link
       → Broke w ⊤ Silent acts fault (bare disks link out) (bare disks new_link out)
@@ -367,7 +367,7 @@ module _ {D L O : Type 0} (w : Outside D L O) where
       booted : Did w boots (bare old link out) (bare new link out)
       booted = did_start started.logs old new link out started.passes
 
-      silent_binds : (c : ℕ) → appended c binds ≡ []
+      silent_binds : (c : ℕ) → facts_appended c binds ≡ []
       silent_binds = (are_binds binds (all_bind config held)).appends
 
       same_logs : (logs : List Log) → Follow first logs → length logs + first ≡ last + 1 → AreLogsOf w.disk config.cluster old logs → started.logs ≡ logs
@@ -392,7 +392,7 @@ module _ {D L O : Type 0} (w : Outside D L O) where
       fails_after fault new_link new_out no_boot serials broke = record {
         cause = broke.cause;
         serials = serials;
-        others = keeps_fewer w.disk w.may_leave (IsElsewhere (starts started.logs).sites) (IsUnserved first (last + 1)) old new
+        others = keeps_fewer w.disk w.may_leave (IsNoDiskOfSites (starts started.logs).sites) (IsUnserved first (last + 1)) old new
             (λ p is. unserved_logs first (last + 1) p started.logs started.follow (let e = started.as_many in omega (e, many, arith)) is) started.others;
         over = λ logs follow long are.
             let same = same_logs logs follow long are in

@@ -6,29 +6,29 @@ use Rattle.mdcc_log_file.specs.Area.{payloads}
 use Rattle.mdcc_log_file.specs.declared.fault.LogFault.{LogFault}
 use Rattle.mdcc_config.specs.declared.config.Config.{Config}
 use Rattle.mdcc_disks.specs.Disks.{Disk}
-use Rattle.mdcc_endings.specs.Logs.{IsTold, LogRefusal, node_at, node_from, node_of}
-use Rattle.mdcc_centre.specs.Nodes.{booted}
+use Rattle.mdcc_command_endings.specs.Logs.{AreAreasTold, LogRefusal, node_booted_at, node_from, node_of}
+use Rattle.mdcc_node_log.specs.Nodes.{facts_at_boot}
 use Rattle.mdcc_link.specs.Link.{LinkCall}
-use Rattle.mdcc_messages.specs.declared.facts.Fact.{Fact}
+use Rattle.mdcc_def_messages.specs.declared.facts.Fact.{Fact}
 use Rattle.mdcc_option.specs.declared.cluster.Cluster.{Cluster}
-use Rattle.mdcc_rules.specs.declared.node.BootFault.{BootFault}
-use Rattle.mdcc_runs.specs.Acts.{Act}
-use Rattle.mdcc_runs.specs.Servers.{Log, site_of}
-use Rattle.mdcc_runs.specs.Sites.{Doing}
+use Rattle.mdcc_def_rules.specs.declared.node.BootFault.{BootFault}
+use Rattle.mdcc_def_server_runs.specs.Acts.{Act}
+use Rattle.mdcc_def_server_runs.specs.Servers.{Log, site_of}
+use Rattle.mdcc_def_server_runs.specs.Sites.{Doing}
 use Rattle.mdcc_serve.specs.Centres.{AllStop, AllTold, Places}
 use Rattle.mdcc_serve.specs.Ends.{AllEnd}
 use Rattle.mdcc_serve.specs.Openings.{BindsSome, LinesSome}
 use Rattle.mdcc_serve.specs.Refusals.{AllBoot, AreTold, BootsAt, EndsStarted, MayFollow, MayServe, SaysAt, SaysOfLogs, StartEnds}
 use Rattle.mdcc_serve.specs.Starts.{Follow, IsUntouched}
 use Rattle.mdcc_serve.specs.declared.served.Served.{Served}
-use Rattle.mdcc_site.specs.Causes.{IsNoBoot}
-use Rattle.mdcc_site.specs.Moments.{MayComeAt, Outside}
-use Rattle.mdcc_site.specs.declared.fault.ServeFault.{ServeFault}
+use Rattle.mdcc_serve_site.specs.Causes.{IsNoBoot}
+use Rattle.mdcc_serve_site.specs.Moments.{MayComeAt, Outside}
+use Rattle.mdcc_serve_site.specs.declared.fault.ServeFault.{ServeFault}
 
 -- ---- the payloads of one log
 
 -- what is made of them
-pub node_read : (cluster : Cluster) (read : Result (List (List ℕ)) ℕ) (all : List (List ℕ)) → read ≡ Ok all → node_from cluster read ≡ node_of (booted cluster all)
+pub node_read : (cluster : Cluster) (read : Result (List (List ℕ)) ℕ) (all : List (List ℕ)) → read ≡ Ok all → node_from cluster read ≡ node_of (facts_at_boot cluster all)
 node_read cluster read all is = ap (node_from cluster) is
 
 pub none_read : (cluster : Cluster) (read : Result (List (List ℕ)) ℕ) (n : ℕ) → read ≡ Err n → node_from cluster read ≡ Err (LogRefusal.NotALog n)
@@ -38,13 +38,13 @@ module _ {D : Type 0} (disk : D → ℕ → Disk) (cluster : Cluster) (disks : D
   -- ---- of a log to which nothing was done yet
 
   module _ (may_leave : D → ℕ → List ℕ → Type 0) (mid : D) (a : ℕ) (un : IsUntouched disk may_leave disks mid a) where
-    told_still : IsTold disk disks a → IsTold disk mid a
+    told_still : AreAreasTold disk disks a → AreAreasTold disk mid a
     told_still told = record {
       first = subst (λ (d : Disk). IsTrue d.told) (sym un.first) told.first;
       second = subst (λ (d : Disk). IsTrue d.told) (sym un.second) told.second;
     }
 
-    node_still : node_at disk cluster mid a ≡ node_at disk cluster disks a
+    node_still : node_booted_at disk cluster mid a ≡ node_booted_at disk cluster disks a
     node_still =
         ap (λ (d : Disk). node_from cluster (payloads d.bytes (disk mid (a + 16)).bytes)) un.first
         ∙ ap (λ (d : Disk). node_from cluster (payloads (disk disks a).bytes d.bytes)) un.second

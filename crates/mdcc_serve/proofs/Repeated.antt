@@ -4,25 +4,25 @@ use Rattle.std.proofs.lemmas.List.Sums.{fold-append}
 use Rattle.std.specs.List.{AllByRecursion}
 use Rattle.std.specs.Prelude.{fold, ⊤}
 use Rattle.mdcc_config.specs.declared.config.Config.{Config}
-use Rattle.mdcc_messages.specs.declared.facts.Fact.{Fact}
+use Rattle.mdcc_def_messages.specs.declared.facts.Fact.{Fact}
 use Rattle.mdcc_option.specs.declared.cluster.Cluster.{Cluster}
-use Rattle.mdcc_runs.specs.Acts.{Act, appended, but_answers}
-use Rattle.mdcc_runs.specs.Servers.{Server, after_turn, turns_of}
-use Rattle.mdcc_runs.specs.Sites.{Doing, Site}
-use Rattle.mdcc_runs.specs.Turns.{Given, turn_of}
+use Rattle.mdcc_def_server_runs.specs.Acts.{Act, but_answers, facts_appended}
+use Rattle.mdcc_def_server_runs.specs.Servers.{Server, after_turn, turns_of}
+use Rattle.mdcc_def_server_runs.specs.Sites.{Doing, Site}
+use Rattle.mdcc_def_server_runs.specs.Turns.{Given, turn_of}
 use Rattle.mdcc_serve.proofs.Doings.{AllOwn, AllWhole, each_ascend, each_does, each_long, each_whole, turns_are, turns_own}
 use Rattle.mdcc_serve.proofs.Others.{keeps_fewer, keeps_none, keeps_then}
 use Rattle.mdcc_serve.proofs.Rounds.{Elsewhere, ascend_later, each_quiet, hold_whole, part_then}
 use Rattle.mdcc_serve.specs.Centres.{AllFinish, AllLogs, AllStop, AllTold, Ascend, HoldSites, Places, TurnStops, TurnsStop, all_seen}
-use Rattle.mdcc_serve.specs.Others.{IsElsewhere, IsNoDiskOf, KeepsElsewhere}
+use Rattle.mdcc_serve.specs.Others.{IsNoDiskOf, IsNoDiskOfSites, KeepsElsewhere}
 use Rattle.mdcc_serve.specs.Stages.{InPart}
-use Rattle.mdcc_site.proofs.Going.{comes_under}
-use Rattle.mdcc_site.proofs.Joined.{did_broke, did_nothing, did_then, facts_expected, facts_then}
-use Rattle.mdcc_site.specs.Causes.{in_flight}
-use Rattle.mdcc_site.specs.Logs.{MayHaveFacts, facts_after, with_facts}
-use Rattle.mdcc_site.specs.Moments.{Broke, MayComeAt, Outside}
-use Rattle.mdcc_site.specs.declared.fault.ServeFault.{ServeFault}
-use Rattle.mdcc_steps.proofs.Each.{each-append}
+use Rattle.mdcc_serve_site.proofs.Going.{comes_under}
+use Rattle.mdcc_serve_site.proofs.Joined.{did_broke, did_nothing, did_then, facts_expected, facts_then}
+use Rattle.mdcc_serve_site.specs.Causes.{in_flight}
+use Rattle.mdcc_serve_site.specs.Logs.{MayHaveFacts, facts_after, with_facts}
+use Rattle.mdcc_serve_site.specs.Moments.{Broke, MayComeAt, Outside}
+use Rattle.mdcc_serve_site.specs.declared.fault.ServeFault.{ServeFault}
+use Rattle.mdcc_theorem_node_steps.proofs.Each.{each-append}
 
 -- before the first turn
 abbrev pub begun : List Site → Server
@@ -53,7 +53,7 @@ grew_then xs ys (old ∷ olds) [] news one two = absurd one
 grew_then xs ys (old ∷ olds) (mid ∷ mids) [] one two = absurd two
 
 -- they have the same disks
-pub grew_elsewhere : (acts : List Act) (olds news : List Site) (p : ℕ) → Grew acts olds news → IsElsewhere olds p → IsElsewhere news p
+pub grew_elsewhere : (acts : List Act) (olds news : List Site) (p : ℕ) → Grew acts olds news → IsNoDiskOfSites olds p → IsNoDiskOfSites news p
 grew_elsewhere acts [] [] p grew is = tt
 grew_elsewhere acts (old ∷ olds) (new ∷ news) p grew is = (subst (λ (n : ℕ). IsNoDiskOf p n) (sym grew.0) is.0, grew_elsewhere acts olds news p grew.2 is.1)
 grew_elsewhere acts [] (new ∷ news) p grew is = absurd grew
@@ -81,7 +81,7 @@ whole_on config server [] whole = whole
 whole_on config server (turn ∷ more) whole = whole_on config (after_turn config server turn) more (turned_whole config server.sites turn whole)
 
 module _ {D L O : Type 0} (w : Outside D L O) where
-  grew_before : (b : ℕ) (xs ys : List Act) (olds news : List Site) → ((c : ℕ) → c ≢ b → appended c xs ≡ []) → Elsewhere w b olds → Grew ys olds news → Grew (xs ++ ys) olds news
+  grew_before : (b : ℕ) (xs ys : List Act) (olds news : List Site) → ((c : ℕ) → c ≢ b → facts_appended c xs ≡ []) → Elsewhere w b olds → Grew ys olds news → Grew (xs ++ ys) olds news
   grew_before b xs ys [] [] silent other grew = tt
   grew_before b xs ys (old ∷ olds) (new ∷ news) silent other grew = (
     grew.0,
@@ -134,8 +134,8 @@ module _ {D L O : Type 0} (w : Outside D L O) where
   pub others_on : (cluster : Cluster) (served : List Site) (server : Server) (start now new : Places D L O) → Grew server.acts served server.sites → AllFinish w cluster served server start now
       → KeepsElsewhere w.disk w.may_leave server.sites now.disks new.disks → KeepsElsewhere w.disk w.may_leave served start.disks new.disks
   others_on cluster served server start now new grew finish keeps =
-      keeps_then w.disk w.may_leave (IsElsewhere served) start.disks now.disks new.disks finish.others
-      (keeps_fewer w.disk w.may_leave (IsElsewhere server.sites) (IsElsewhere served) now.disks new.disks (λ p is. grew_elsewhere server.acts served server.sites p grew is) keeps)
+      keeps_then w.disk w.may_leave (IsNoDiskOfSites served) start.disks now.disks new.disks finish.others
+      (keeps_fewer w.disk w.may_leave (IsNoDiskOfSites server.sites) (IsNoDiskOfSites served) now.disks new.disks (λ p is. grew_elsewhere server.acts served server.sites p grew is) keeps)
 
   -- others are not
   module _ (cluster : Cluster) (start now new : Places D L O) (served : List Site) (first : Server) (earlier : List Act) (doing : Doing) (fault : ServeFault) (finish : AllFinish w cluster served first start now)
@@ -200,7 +200,7 @@ module _ {D L O : Type 0} (w : Outside D L O) where
     given = [];
     made = refl;
     each = tt;
-    finish = record { did = did_nothing w (all_seen start); stand = hold; others = keeps_none w.disk w.may_leave (IsElsewhere served) start.disks };
+    finish = record { did = did_nothing w (all_seen start); stand = hold; others = keeps_none w.disk w.may_leave (IsNoDiskOfSites served) start.disks };
     ascend = ascend;
     grew = grew_none served;
     many = refl;

@@ -3,27 +3,27 @@ use Rattle.std.proofs.Common.{◌≡◌, ◌≢◌, ℕ, ◌+◌, ◌≤◌, ◌
 use Rattle.std.proofs.Math.Seq.{get_or-append_seam, set-append_seam}
 use Rattle.std.specs.List.{AllByRecursion}
 use Rattle.mdcc_base.specs.Counts.{sum_over}
-use Rattle.mdcc_messages.specs.declared.facts.Fact.{Fact}
+use Rattle.mdcc_def_messages.specs.declared.facts.Fact.{Fact}
 use Rattle.mdcc_option.specs.declared.cluster.Cluster.{Cluster}
-use Rattle.mdcc_outbox.proofs.Recorded.{answers_append, sum_append}
+use Rattle.mdcc_serve_outbox.proofs.Recorded.{answers_append, sum_append}
 use Rattle.mdcc_link.specs.Link.{LinkCall}
-use Rattle.mdcc_runs.specs.Acts.{Act, appended, but_answers, dropped_in, lost_in, steps_in}
-use Rattle.mdcc_runs.specs.Servers.{Server}
-use Rattle.mdcc_runs.specs.Sites.{Doing, Site}
+use Rattle.mdcc_def_server_runs.specs.Acts.{Act, but_answers, dropped_in, facts_appended, lost_in, steps_in}
+use Rattle.mdcc_def_server_runs.specs.Servers.{Server}
+use Rattle.mdcc_def_server_runs.specs.Sites.{Doing, Site}
 use Rattle.mdcc_serve.proofs.Doings.{AllOwn, AllWhole, each_back, each_both, each_by, each_does, each_front, each_join, each_joined, each_long, front_none}
 use Rattle.mdcc_serve.proofs.Others.{elsewhere_in, keeps_none, keeps_one, keeps_then}
 use Rattle.mdcc_serve.proofs.Kept.{apart, facts_kept, facts_or_more, site_kept}
 use Rattle.mdcc_serve.specs.Centres.{AllFinish, AllLogs, AllStop, AllTold, Ascend, HoldSites, IsServedAt, Places, all_seen, places}
-use Rattle.mdcc_serve.specs.Others.{IsElsewhere, KeepsElsewhere}
+use Rattle.mdcc_serve.specs.Others.{IsNoDiskOfSites, KeepsElsewhere}
 use Rattle.mdcc_serve.specs.Stages.{InPart}
-use Rattle.mdcc_site.proofs.Going.{comes_under}
-use Rattle.mdcc_site.proofs.Joined.{appended_append, appended_answers, did_broke, did_nothing, did_then, facts_expected, facts_then}
-use Rattle.mdcc_site.specs.Causes.{in_flight}
-use Rattle.mdcc_site.specs.Logs.{MayHaveFacts, facts_after, with_facts}
-use Rattle.mdcc_site.specs.Moments.{Adds, Broke, Caused, Did, DiskPasses, KeepsOthers, Leaves, MayComeAt, Moment, Outside, Passes}
-use Rattle.mdcc_site.specs.SiteState.{Finishes, Goes, HoldsSite, SiteLog, Stops, place, seen}
-use Rattle.mdcc_site.specs.declared.fault.ServeFault.{ServeFault}
-use Rattle.mdcc_site.specs.declared.site.Site.{Site as TheSite}
+use Rattle.mdcc_serve_site.proofs.Going.{comes_under}
+use Rattle.mdcc_serve_site.proofs.Joined.{appended_append, appended_answers, did_broke, did_nothing, did_then, facts_expected, facts_then}
+use Rattle.mdcc_serve_site.specs.Causes.{in_flight}
+use Rattle.mdcc_serve_site.specs.Logs.{MayHaveFacts, facts_after, with_facts}
+use Rattle.mdcc_serve_site.specs.Moments.{Adds, Broke, Caused, Did, DiskPasses, KeepsOthers, Leaves, MayComeAt, Moment, Outside, Passes}
+use Rattle.mdcc_serve_site.specs.SiteState.{Finishes, Goes, HoldsSite, SiteLog, Stops, place, seen}
+use Rattle.mdcc_serve_site.specs.declared.fault.ServeFault.{ServeFault}
+use Rattle.mdcc_serve_site.specs.declared.site.Site.{Site as TheSite}
 
 -- ---- in the part of one
 
@@ -179,11 +179,11 @@ module _ {D L O : Type 0} (w : Outside D L O) where
   ascend_back n (first ∷ front) site back ascend = ascend_back first.centre front site back ascend.2
 
   -- another centre's log is not written to
-  pub each_quiet : {G : Type 0} (does : Site → G → Doing) → AllOwn does → (b : ℕ) (front : List Site) (given : List G) → length front ≡ length given → Elsewhere b front → appended b (each_does does front given).acts ≡ []
+  pub each_quiet : {G : Type 0} (does : Site → G → Doing) → AllOwn does → (b : ℕ) (front : List Site) (given : List G) → length front ≡ length given → Elsewhere b front → facts_appended b (each_does does front given).acts ≡ []
   each_quiet does own b [] given same other = refl
   each_quiet does own b (site ∷ front) (g ∷ given) same other =
       appended_append b (does site g).acts (each_does does front given).acts
-      ∙ (ap (λ (fs : List Fact). fs ++ appended b (each_does does front given).acts) ((own site g).others b (λ is. other.0.1 (sym is)))
+      ∙ (ap (λ (fs : List Fact). fs ++ facts_appended b (each_does does front given).acts) ((own site g).others b (λ is. other.0.1 (sym is)))
       ∙ each_quiet does own b front given (omega (same, arith)) other.1)
   each_quiet does own b (site ∷ front) [] same other = absurd (omega (same, arith))
 
@@ -198,7 +198,7 @@ module _ {D L O : Type 0} (w : Outside D L O) where
   hold_logs cluster disks (h ∷ held) [] hold = absurd hold
 
   -- where others append
-  log_elsewhere : (old mid new : D) (b : ℕ) (first acts : List Act) (next : List Fact) (site : Site) → b ≤ 9 → (site.centre ≤ 9) × (site.centre ≢ b) → KeepsOthers w.disk w.may_leave b mid new → appended site.centre acts ≡ []
+  log_elsewhere : (old mid new : D) (b : ℕ) (first acts : List Act) (next : List Fact) (site : Site) → b ≤ 9 → (site.centre ≤ 9) × (site.centre ≢ b) → KeepsOthers w.disk w.may_leave b mid new → facts_appended site.centre acts ≡ []
       → HasLog old mid first site → IsTrue (w.disk old site.centre).told → MayHaveFacts w.disk w.may_leave new site.centre (facts_after site.centre site.logged (first ++ acts)) next
   log_elsewhere old mid new b first acts next site most other keeps quiet has told =
       facts_or_more w.disk w.may_leave new site.centre (facts_after site.centre site.logged (first ++ acts)) next
@@ -289,7 +289,7 @@ module _ {D L O : Type 0} (w : Outside D L O) where
     did = did_nothing w (all_seen start);
     hold = hold;
     logs = hold_logs cluster start.disks start.held served hold;
-    others = keeps_none w.disk w.may_leave (IsElsewhere served) start.disks;
+    others = keeps_none w.disk w.may_leave (IsNoDiskOfSites served) start.disks;
   }
 
   -- one more
@@ -330,8 +330,8 @@ module _ {D L O : Type 0} (w : Outside D L O) where
       -- the disks of none of them stay
       others_then : (new_disks : D) → KeepsOthers w.disk w.may_leave site.centre disks new_disks → KeepsElsewhere w.disk w.may_leave served start.disks new_disks
       others_then new_disks keeps =
-          keeps_then w.disk w.may_leave (IsElsewhere served) start.disks disks new_disks gone.others
-          (keeps_one w.disk w.may_leave (IsElsewhere served) site.centre disks new_disks (λ p is. elsewhere_in served gone.front site back p whole is) keeps)
+          keeps_then w.disk w.may_leave (IsNoDiskOfSites served) start.disks disks new_disks gone.others
+          (keeps_one w.disk w.may_leave (IsNoDiskOfSites served) site.centre disks new_disks (λ p is. elsewhere_in served gone.front site back p whole is) keeps)
 
       pub one_gone : (given : G) (new_disks : D) (new : TheSite) (new_link : L) (new_out : O)
           → Finishes w cluster site (does site given) (place disks ours.one link out) (place new_disks new new_link new_out)
@@ -435,10 +435,10 @@ module _ {D L O : Type 0} (w : Outside D L O) where
                   facts_then c facts first_acts acts
                   ∙ (ap (λ (fs : List Fact). facts_after c fs acts) (sym (facts_expected c facts before first_acts are)) ∙ sym (facts_then c facts before acts))
 
-              silent : (c : ℕ) → c ≢ site.centre → appended c acts ≡ []
+              silent : (c : ℕ) → c ≢ site.centre → facts_appended c acts ≡ []
               silent c other =
                   sym (appended_answers c acts)
-                  ∙ front_none (appended c (but_answers acts)) (appended c rest) (sym (appended_append c (but_answers acts) rest) ∙ (ap (appended c) q.1 ∙ (own site given).others c other))
+                  ∙ front_none (facts_appended c (but_answers acts)) (facts_appended c rest) (sym (appended_append c (but_answers acts) rest) ∙ (ap (facts_appended c) q.1 ∙ (own site given).others c other))
 
               elsewhere : (s : Site) → (HasLog start.disks disks first_acts s) × ((s.centre ≤ 9) × (s.centre ≢ site.centre))
                   → IsTrue (w.disk start.disks s.centre).told → MayHaveFacts w.disk w.may_leave new_disks s.centre (facts_after s.centre s.logged (before ++ acts)) (in_flight fault s.centre rest)

@@ -1,16 +1,16 @@
 -- A centre that runs over its log, or why none does.
 use Rattle.std.proofs.Common.{◌≡◌, ℕ, ◌+◌, ◌++◌, ◌∷◌, ◌<◌, [], List, IsTrue, Result, Ok, Err, refl, sym, ◌∙◌, ap, subst, inl, inr, true}
 use Rattle.std.specs.Prelude.{is_ok}
-use Rattle.mdcc_admission.specs.Boots.{BootsWithinCells}
-use Rattle.mdcc_centre.proofs.Kept.{rest_read}
-use Rattle.mdcc_centre.specs.Logged.{AreLogged}
-use Rattle.mdcc_centre.specs.Nodes.{CentreStore, are_stored, booted, cells_of, needed_in, spare_of}
-use Rattle.mdcc_centre.specs.Payloads.{GivesNoNode, HasNoRoomForBoot, StartEnds, StartsFrom}
-use Rattle.mdcc_centre.specs.Starting.{AreasStand, HasRoom, IsAsBefore, IsLogOf as IsLogRead, IsRefused, IsUnread, KeepsLog, KeepsUnlessDisk}
-use Rattle.mdcc_centre.specs.declared.fault.StartFault.{StartFault}
-use Rattle.mdcc_centre.specs.declared.starting.Running.{Running}
+use Rattle.mdcc_node_boot.specs.Boots.{BootsWithinCells}
+use Rattle.mdcc_node_log.proofs.Kept.{rest_read}
+use Rattle.mdcc_node_log.specs.Logged.{AreLogged}
+use Rattle.mdcc_node_log.specs.Nodes.{CentreStore, are_stored, cells_of, facts_at_boot, needed_in, spare_cells_of}
+use Rattle.mdcc_node_log.specs.Payloads.{GivesNoNode, HasNoRoomForBoot, StartEnds, StartsFrom}
+use Rattle.mdcc_node_log.specs.Starting.{AreasStand, HasLogRoom, IsAsBefore, IsLogOnDisks as IsLogRead, IsRefused, IsUnread, KeepsLog, KeepsUnlessDisk}
+use Rattle.mdcc_node_log.specs.declared.fault.StartFault.{StartFault}
+use Rattle.mdcc_node_log.specs.declared.starting.Running.{Running}
 use Rattle.mdcc_disks.specs.Disks.{Disk, Only}
-use Rattle.mdcc_endings.specs.Logs.{IsTold, LogRefusal, node_at, node_from, node_of}
+use Rattle.mdcc_command_endings.specs.Logs.{AreAreasTold, LogRefusal, node_booted_at, node_from, node_of}
 use Rattle.mdcc_log.proofs.Groups.{full_one}
 use Rattle.mdcc_log_file.specs.Area.{payloads}
 use Rattle.mdcc_log.specs.AtRest.{IsAtRest}
@@ -19,33 +19,33 @@ use Rattle.mdcc_log.specs.Crash.{CurrentIsRead, ReadsAsEither}
 use Rattle.mdcc_log.specs.Frames.{OpenAreas}
 use Rattle.mdcc_log.specs.Groups.{AreFull}
 use Rattle.mdcc_log_file.specs.declared.fault.LogFault.{LogFault}
-use Rattle.mdcc_messages.specs.Spelling.{encodings_of, fact_bytes}
-use Rattle.mdcc_messages.specs.declared.facts.Fact.{Fact}
+use Rattle.mdcc_def_messages.specs.Spelling.{encodings_of, fact_bytes}
+use Rattle.mdcc_def_messages.specs.declared.facts.Fact.{Fact}
 use Rattle.mdcc_option.specs.declared.cluster.Cluster.{Cluster}
-use Rattle.mdcc_protocol.specs.Belongs.{is_centre}
-use Rattle.mdcc_protocol.specs.IsCluster.{IsCluster}
-use Rattle.mdcc_rules.specs.Boot.{next_boot}
-use Rattle.mdcc_rules.specs.declared.node.BootFault.{BootFault}
-use Rattle.mdcc_runs.specs.Servers.{Log}
+use Rattle.mdcc_def_protocol.specs.Belongs.{is_centre}
+use Rattle.mdcc_def_protocol.specs.IsCluster.{IsCluster}
+use Rattle.mdcc_def_rules.specs.Boot.{next_boot}
+use Rattle.mdcc_def_rules.specs.declared.node.BootFault.{BootFault}
+use Rattle.mdcc_def_server_runs.specs.Servers.{Log}
 use Rattle.mdcc_serve.proofs.Booted.{gives_node, gives_none}
 use Rattle.mdcc_serve.proofs.Opened.{its_payloads, same_lists}
 use Rattle.mdcc_serve.proofs.Refused.{node_read, none_read}
 use Rattle.mdcc_serve.specs.Refusals.{BootsAt, SaysAt}
-use Rattle.mdcc_serve.specs.Serving.{IsDurable, IsLogOf}
-use Rattle.mdcc_serve.specs.Starts.{FailsToStart, GivesNode, GivesNone, IsRunning, boot_fault_of, start_fault_of, starting}
+use Rattle.mdcc_serve.specs.Serving.{IsDurable, IsServedLog}
+use Rattle.mdcc_serve.specs.Starts.{FailsToStart, GivesNoServer, GivesNode, IsRunning, boot_fault_of, start_fault_of, starting}
 use Rattle.mdcc_serve.specs.Stays.{LogStays}
-use Rattle.mdcc_site.proofs.Logged.{next_are, rested}
-use Rattle.mdcc_site.specs.Causes.{IsBootRefused, in_flight}
-use Rattle.mdcc_site.specs.Logs.{MayHaveFacts}
-use Rattle.mdcc_site.specs.Moments.{DiskPasses, KeepsOthers}
-use Rattle.mdcc_site.specs.Room.{HasNoRoom}
-use Rattle.mdcc_site.specs.declared.fault.ServeFault.{ServeFault}
-use Rattle.mdcc_spelling.specs.Laws.{FactsHaveOneSpelling, FactsReadAreWellFormed}
-use Rattle.mdcc_steps.specs.NodeInvariant.{BootGivesNode}
+use Rattle.mdcc_serve_site.proofs.Logged.{next_are, rested}
+use Rattle.mdcc_serve_site.specs.Causes.{IsBootRefused, in_flight}
+use Rattle.mdcc_serve_site.specs.Logs.{MayHaveFacts}
+use Rattle.mdcc_serve_site.specs.Moments.{DiskPasses, KeepsOthers}
+use Rattle.mdcc_serve_site.specs.Room.{HasNoRoom}
+use Rattle.mdcc_serve_site.specs.declared.fault.ServeFault.{ServeFault}
+use Rattle.mdcc_theorem_encoding.specs.Laws.{FactsHaveOneSpelling, FactsReadAreWellFormed}
+use Rattle.mdcc_theorem_node_steps.specs.NodeInvariant.{BootGivesNode}
 
 -- ---- the node of a log
 
-node_given : (cluster : Cluster) (read : Result (List (List ℕ)) ℕ) (all : List (List ℕ)) (facts : List Fact) → read ≡ Ok all → booted cluster all ≡ Ok facts → IsTrue (is_ok (node_from cluster read))
+node_given : (cluster : Cluster) (read : Result (List (List ℕ)) ℕ) (all : List (List ℕ)) (facts : List Fact) → read ≡ Ok all → facts_at_boot cluster all ≡ Ok facts → IsTrue (is_ok (node_from cluster read))
 node_given cluster read all facts is boots =
     subst (λ (r : Result (List (List ℕ)) ℕ). IsTrue (is_ok (node_from cluster r))) (sym is) (subst (λ (r : Result (List Fact) BootFault). IsTrue (is_ok (node_of r))) (sym boots) refl)
 
@@ -55,13 +55,13 @@ module _ {D : Type 0} (disk : D → ℕ → Disk) (may_leave : D → ℕ → Lis
   abbrev Read : List (List ℕ) → Type 0
   Read all = payloads (disk old centre).bytes (disk old (centre + 16)).bytes ≡ Ok all
 
-  told_at : (log : Log) → log.centre ≡ centre → IsLogOf disk cluster old log → IsTold disk old centre
+  told_at : (log : Log) → log.centre ≡ centre → IsServedLog disk cluster old log → AreAreasTold disk old centre
   told_at log of is = record { first = subst (λ (n : ℕ). IsTrue (disk old n).told) of is.told; second = subst (λ (n : ℕ). IsTrue (disk old (n + 16)).told) of is.told_other }
 
-  read_at : (log : Log) → log.centre ≡ centre → IsLogOf disk cluster old log → Read (encodings_of log.facts)
+  read_at : (log : Log) → log.centre ≡ centre → IsServedLog disk cluster old log → Read (encodings_of log.facts)
   read_at log of is = its_payloads disk old log centre of is.has
 
-  log_read : (log : Log) → log.centre ≡ centre → IsLogOf disk cluster old log → IsLogRead log.facts (disk old centre) (disk old (centre + 16))
+  log_read : (log : Log) → log.centre ≡ centre → IsServedLog disk cluster old log → IsLogRead log.facts (disk old centre) (disk old (centre + 16))
   log_read log of is = let told = told_at log of is in record { told_first = told.first; told_second = told.second; read = read_at log of is }
 
   only_at : (log : Log) → log.centre ≡ centre → IsDurable disk may_leave old log → Only (disk old centre).bytes (may_leave old centre) × Only (disk old (centre + 16)).bytes (may_leave old (centre + 16))
@@ -74,10 +74,10 @@ module _ {D : Type 0} (disk : D → ℕ → Disk) (may_leave : D → ℕ → Lis
       (alike : (disk old (centre + 16)).told ≡ (disk old centre).told) (tears : ℕ → Type 0)
     where
       abbrev Starts : Running CentreStore → Type 0
-      Starts running = StartsFrom disk may_leave centre every old new are_stored spare_of needed_in (cells_of cluster) cluster running
+      Starts running = StartsFrom disk may_leave centre every old new are_stored spare_cells_of needed_in (cells_of cluster) cluster running
 
       -- where one area tells its bytes both did
-      told_before : IsTrue (disk new centre).told → IsTold disk old centre
+      told_before : IsTrue (disk new centre).told → AreAreasTold disk old centre
       told_before told = let here = subst IsTrue (passes.told centre) told in record { first = here; second = subst IsTrue (sym alike) here }
 
       pub runs : (running : Running CentreStore) → Starts running → running.log.centre ≡ centre → running.log.every ≡ every → running.log.tail < every
@@ -116,18 +116,18 @@ module _ {D : Type 0} (disk : D → ℕ → Disk) (may_leave : D → ℕ → Lis
           at_rest : IsTrue (disk new centre).told → IsAtRest disk may_leave new running.log (encodings_of (next_boot given.facts ∷ given.facts))
           at_rest told = let before = told_before told in subst (λ (ps : List (List ℕ)). IsAtRest disk may_leave new running.log ps) are (starts.open_log before.first before.second)
 
-          same : (all : List (List ℕ)) → IsTold disk old centre → Read all → starts.all ≡ all
+          same : (all : List (List ℕ)) → AreAreasTold disk old centre → Read all → starts.all ≡ all
           same all told is = same_lists (payloads (disk old centre).bytes (disk old (centre + 16)).bytes) starts.all all (starts.read told.first told.second) is
 
-          node_is : (all : List (List ℕ)) → IsTold disk old centre → Read all → booted cluster all ≡ Ok (starts.boot ∷ starts.boots.0)
-          node_is all told is = subst (λ (ps : List (List ℕ)). booted cluster ps ≡ Ok (starts.boot ∷ starts.boots.0)) (same all told is) starts.boots.1
+          node_is : (all : List (List ℕ)) → AreAreasTold disk old centre → Read all → facts_at_boot cluster all ≡ Ok (starts.boot ∷ starts.boots.0)
+          node_is all told is = subst (λ (ps : List (List ℕ)). facts_at_boot cluster ps ≡ Ok (starts.boot ∷ starts.boots.0)) (same all told is) starts.boots.1
 
-          now_read : (all : List (List ℕ)) → IsTold disk old centre → Read all → payloads (disk new centre).bytes (disk new (centre + 16)).bytes ≡ Ok (all ++ fact_bytes starts.boot ∷ [])
+          now_read : (all : List (List ℕ)) → AreAreasTold disk old centre → Read all → payloads (disk new centre).bytes (disk new (centre + 16)).bytes ≡ Ok (all ++ fact_bytes starts.boot ∷ [])
           now_read all told is =
               subst (λ (ps : List (List ℕ)). payloads (disk new centre).bytes (disk new (centre + 16)).bytes ≡ Ok (ps ++ fact_bytes starts.boot ∷ [])) (same all told is)
               (rest_read disk may_leave new (starts.all ++ fact_bytes starts.boot ∷ []) running.log centre of (starts.open_log told.first told.second))
 
-          crash_read : (all : List (List ℕ)) → IsTold disk old centre → Read all → (first second : List ℕ) → may_leave new centre first → may_leave new (centre + 16) second
+          crash_read : (all : List (List ℕ)) → AreAreasTold disk old centre → Read all → (first second : List ℕ) → may_leave new centre first → may_leave new (centre + 16) second
               → payloads first second ≡ Ok (all ++ fact_bytes starts.boot ∷ [])
           crash_read all told is first second left left_second =
               let rest = starts.open_log told.first told.second in
@@ -135,7 +135,7 @@ module _ {D : Type 0} (disk : D → ℕ → Disk) (may_leave : D → ℕ → Lis
               (rested disk may_leave current_is_read new running.log centre (starts.all ++ fact_bytes starts.boot ∷ []) rest.range of rest first second left left_second)
 
   -- a node boots from its log
-  pub runs_boot : (running : Running CentreStore) → StartsFrom disk may_leave centre every old new are_stored spare_of needed_in (cells_of cluster) cluster running → BootsAt disk cluster old centre
+  pub runs_boot : (running : Running CentreStore) → StartsFrom disk may_leave centre every old new are_stored spare_cells_of needed_in (cells_of cluster) cluster running → BootsAt disk cluster old centre
   runs_boot running starts told = node_given cluster (payloads (disk old centre).bytes (disk old (centre + 16)).bytes) starts.all (starts.boot ∷ starts.boots.0) (starts.read told.first told.second) starts.boots.1
 
   -- ---- it does not
@@ -145,8 +145,8 @@ module _ {D : Type 0} (disk : D → ℕ → Disk) (may_leave : D → ℕ → Lis
     pub passes : DiskPasses disk may_leave old new
     pub others : KeepsOthers disk may_leave centre old new
     pub refused : (facts : List Fact) → AreLogged cluster facts → IsLogRead facts (disk old centre) (disk old (centre + 16))
-        → IsRefused (cells_of cluster) cluster facts (HasRoom every (disk old centre) (disk old (centre + 16))) fault
-    pub over_any : StartEnds disk may_leave centre every old new are_stored spare_of needed_in (cells_of cluster) cluster fault
+        → IsRefused (cells_of cluster) cluster facts (HasLogRoom every (disk old centre) (disk old (centre + 16))) fault
+    pub over_any : StartEnds disk may_leave centre every old new are_stored spare_cells_of needed_in (cells_of cluster) cluster fault
     pub kept : (all : List (List ℕ)) → IsTrue (disk old centre).told → IsTrue (disk old (centre + 16)).told → Read all → KeepsLog all fault centre every disk may_leave old new
     pub unread : (n : ℕ) → IsTrue (disk old centre).told → IsTrue (disk old (centre + 16)).told → payloads (disk old centre).bytes (disk old (centre + 16)).bytes ≡ Err n → IsUnread n fault centre disk old new
     pub no_log : (n : ℕ) → fault ≡ StartFault.Log (LogFault.NotALog n) → IsTrue (disk old centre).told → IsTrue (disk old (centre + 16)).told → payloads (disk old centre).bytes (disk old (centre + 16)).bytes ≡ Err n
@@ -164,11 +164,11 @@ module _ {D : Type 0} (disk : D → ℕ → Disk) (may_leave : D → ℕ → Lis
       (is_cluster : IsCluster cluster) (among : is_centre cluster centre ≡ true) (tears : ℕ → Type 0)
     where
       -- a log that is read as it was read before
-      same_stays : ((all : List (List ℕ)) → IsTold disk old centre → Read all → payloads (disk new centre).bytes (disk new (centre + 16)).bytes ≡ Ok all)
+      same_stays : ((all : List (List ℕ)) → AreAreasTold disk old centre → Read all → payloads (disk new centre).bytes (disk new (centre + 16)).bytes ≡ Ok all)
           → ((all : List (List ℕ)) (current other : List ℕ) → (tears 1 → ⊥) → IsTrue (disk old centre).told → IsTrue (disk old (centre + 16)).told
           → Only (disk old centre).bytes (may_leave old centre) → Only (disk old (centre + 16)).bytes (may_leave old (centre + 16)) → Read all
           → may_leave new centre current → may_leave new (centre + 16) other → payloads current other ≡ Ok all)
-          → ((n : ℕ) → IsTold disk old centre → payloads (disk old centre).bytes (disk old (centre + 16)).bytes ≡ Err n → AreasStand centre disk old new)
+          → ((n : ℕ) → AreAreasTold disk old centre → payloads (disk old centre).bytes (disk old (centre + 16)).bytes ≡ Err n → AreasStand centre disk old new)
           → LogStays disk may_leave tears cluster old new centre
       same_stays read crash unread = record {
         read = λ all told is. inl (read all told is);
@@ -188,11 +188,11 @@ module _ {D : Type 0} (disk : D → ℕ → Disk) (may_leave : D → ℕ → Lis
 
       -- ---- no node boots from its payloads
 
-      refused_by : (why : BootFault) (log : Log) (all : List (List ℕ)) → GivesNone cluster centre all (ServeFault.Boot centre why) → AreLogged cluster log.facts → all ≡ encodings_of log.facts → IsBootRefused cluster log.facts why
+      refused_by : (why : BootFault) (log : Log) (all : List (List ℕ)) → GivesNoServer cluster centre all (ServeFault.Boot centre why) → AreLogged cluster log.facts → all ≡ encodings_of log.facts → IsBootRefused cluster log.facts why
       refused_by why log all (inl bad) are same = absurd (cc)
       refused_by why log all (inr (other, is, refuses)) are same = let reason : other ≡ why = cc in subst (IsBootRefused cluster log.facts) reason (refuses log.facts are same)
 
-      boot_fails : (why : BootFault) (all : List (List ℕ)) → GivesNone cluster centre all (ServeFault.Boot centre why) → (IsTold disk old centre → Read all) → Ends tears (StartFault.Boot why)
+      boot_fails : (why : BootFault) (all : List (List ℕ)) → GivesNoServer cluster centre all (ServeFault.Boot centre why) → (AreAreasTold disk old centre → Read all) → Ends tears (StartFault.Boot why)
           → FailsToStart disk may_leave every tears cluster centre (ServeFault.Boot centre why) old new
       boot_fails why all none read e = record {
         of = refl;
@@ -211,12 +211,12 @@ module _ {D : Type 0} (disk : D → ℕ → Disk) (may_leave : D → ℕ → Lis
             };
       }
 
-      none_of : (why : BootFault) (given : GivesNoNode disk may_leave centre every old new are_stored spare_of needed_in (cells_of cluster) cluster why) → GivesNone cluster centre given.all (boot_fault_of centre why)
+      none_of : (why : BootFault) (given : GivesNoNode disk may_leave centre every old new are_stored spare_cells_of needed_in (cells_of cluster) cluster why) → GivesNoServer cluster centre given.all (boot_fault_of centre why)
       none_of why given = gives_none one well within gives cluster is_cluster centre among given.all given.opened.bytes given.opened.short why given.boots
 
       -- ---- its boot has no room
 
-      full_fails : HasNoRoomForBoot disk may_leave centre every old new are_stored spare_of needed_in (cells_of cluster) cluster → Ends tears (StartFault.Log LogFault.LogFull)
+      full_fails : HasNoRoomForBoot disk may_leave centre every old new are_stored spare_cells_of needed_in (cells_of cluster) cluster → Ends tears (StartFault.Log LogFault.LogFull)
           → FailsToStart disk may_leave every tears cluster centre (ServeFault.Log centre LogFault.LogFull) old new
       full_fails lacks e = record {
         of = tt;
@@ -235,7 +235,7 @@ module _ {D : Type 0} (disk : D → ℕ → Disk) (may_leave : D → ℕ → Lis
             };
       }
         where
-          no_room : (log : Log) → log.centre ≡ centre → IsLogOf disk cluster old log → HasNoRoom disk may_leave every new log.centre (next_boot log.facts ∷ [])
+          no_room : (log : Log) → log.centre ≡ centre → IsServedLog disk cluster old log → HasNoRoom disk may_leave every new log.centre (next_boot log.facts ∷ [])
           no_room log of is =
               let told = told_at log of is in
               let same = same_lists (payloads (disk old centre).bytes (disk old (centre + 16)).bytes) lacks.all (encodings_of log.facts) (lacks.opened.read told.first told.second) (read_at log of is) in
@@ -262,7 +262,7 @@ module _ {D : Type 0} (disk : D → ℕ → Disk) (may_leave : D → ℕ → Lis
         over = λ log of is. record { comes = of; boots = tt; full = tt; kept = λ durable safe. either log of is durable safe };
       }
         where
-          either : (log : Log) → log.centre ≡ centre → IsLogOf disk cluster old log → IsDurable disk may_leave old log → (tears 1 → ⊥)
+          either : (log : Log) → log.centre ≡ centre → IsServedLog disk cluster old log → IsDurable disk may_leave old log → (tears 1 → ⊥)
               → MayHaveFacts disk may_leave new log.centre log.facts (in_flight (ServeFault.Disk centre) log.centre (starting log))
           either log of is durable safe =
               let only = only_at log of durable in
@@ -296,7 +296,7 @@ module _ {D : Type 0} (disk : D → ℕ → Disk) (may_leave : D → ℕ → Lis
         over = λ log of is. record { comes = tt; boots = tt; full = tt; kept = λ durable safe. just log of is durable safe };
       }
         where
-          just : (log : Log) → log.centre ≡ centre → IsLogOf disk cluster old log → IsDurable disk may_leave old log → (tears 1 → ⊥) → MayHaveFacts disk may_leave new log.centre log.facts []
+          just : (log : Log) → log.centre ≡ centre → IsServedLog disk cluster old log → IsDurable disk may_leave old log → (tears 1 → ⊥) → MayHaveFacts disk may_leave new log.centre log.facts []
           just log of is durable safe =
               let only = only_at log of durable in
               let told = told_at log of is in
@@ -305,11 +305,11 @@ module _ {D : Type 0} (disk : D → ℕ → Disk) (may_leave : D → ℕ → Lis
 
   -- ---- what is said of its log
 
-  none_says : (why : BootFault) (all : List (List ℕ)) → (IsTrue (disk old centre).told → IsTrue (disk old (centre + 16)).told → Read all) → booted cluster all ≡ Err why
-      → IsTold disk old centre → node_at disk cluster old centre ≡ Err (LogRefusal.NoNode why)
+  none_says : (why : BootFault) (all : List (List ℕ)) → (IsTrue (disk old centre).told → IsTrue (disk old (centre + 16)).told → Read all) → facts_at_boot cluster all ≡ Err why
+      → AreAreasTold disk old centre → node_booted_at disk cluster old centre ≡ Err (LogRefusal.NoNode why)
   none_says why all read is told = node_read cluster (payloads (disk old centre).bytes (disk old (centre + 16)).bytes) all (read told.first told.second) ∙ ap node_of is
 
-  pub says : (fault : StartFault) → StartEnds disk may_leave centre every old new are_stored spare_of needed_in (cells_of cluster) cluster fault
+  pub says : (fault : StartFault) → StartEnds disk may_leave centre every old new are_stored spare_cells_of needed_in (cells_of cluster) cluster fault
       → ((n : ℕ) → fault ≡ StartFault.Log (LogFault.NotALog n) → IsTrue (disk old centre).told → IsTrue (disk old (centre + 16)).told → payloads (disk old centre).bytes (disk old (centre + 16)).bytes ≡ Err n)
       → (fault ≡ StartFault.Log LogFault.Memory → ⊥) → (fault ≡ StartFault.Boot BootFault.Memory → ⊥) → SaysAt disk cluster old centre (start_fault_of centre fault)
   says (StartFault.Log LogFault.DiskFault) over no_log no_log_memory no_boot_memory = refl

@@ -6,12 +6,12 @@ use Rattle.mdcc_option.specs.declared.cluster.Cluster.{Cluster}
 use Rattle.mdcc_serve.proofs.Kept.{apart}
 use Rattle.mdcc_serve.proofs.Opened.{log_stays_on, log_stays_since, log_stood}
 use Rattle.mdcc_serve.specs.Starts.{IsUntouched}
-use Rattle.mdcc_serve.specs.Stays.{AllStay, LogStays, UnlessDisk}
-use Rattle.mdcc_site.specs.Moments.{KeepsOthers}
-use Rattle.mdcc_site.specs.declared.fault.ServeFault.{ServeFault}
+use Rattle.mdcc_serve.specs.Stays.{AllStay, LogStays, UnlessDiskFault}
+use Rattle.mdcc_serve_site.specs.Moments.{KeepsOthers}
+use Rattle.mdcc_serve_site.specs.declared.fault.ServeFault.{ServeFault}
 
 -- so what follows of it stands too
-pub unless_so : {P Q : Type 0} (fault : ServeFault) → UnlessDisk fault P → (P → Q) → UnlessDisk fault Q
+pub unless_so : {P Q : Type 0} (fault : ServeFault) → UnlessDiskFault fault P → (P → Q) → UnlessDiskFault fault Q
 unless_so (ServeFault.Disk a) p so = tt
 unless_so (ServeFault.Log a fault) p so = so p
 unless_so (ServeFault.Boot a fault) p so = so p

@@ -3,13 +3,13 @@ use Rattle.std.proofs.Common.{ℕ, ◌+◌, List, ◌∙◌, inl, inr, arith}
 use Rattle.mdcc_log_file.specs.declared.fault.LogFault.{LogFault}
 use Rattle.mdcc_disks.specs.Disks.{Disk}
 use Rattle.mdcc_option.specs.declared.cluster.Cluster.{Cluster}
-use Rattle.mdcc_outbox.proofs.Handed.{rose_before}
-use Rattle.mdcc_runs.specs.Acts.{Act}
-use Rattle.mdcc_runs.specs.Servers.{Log}
-use Rattle.mdcc_site.specs.Causes.{BootsRefused, ComesAt, IsNoBoot}
-use Rattle.mdcc_site.specs.LogEffects.{CausedOn}
-use Rattle.mdcc_site.specs.Moments.{DiskPasses, MayComeAt}
-use Rattle.mdcc_site.specs.declared.fault.ServeFault.{ServeFault}
+use Rattle.mdcc_serve_outbox.proofs.Handed.{rose_before}
+use Rattle.mdcc_def_server_runs.specs.Acts.{Act}
+use Rattle.mdcc_def_server_runs.specs.Servers.{Log}
+use Rattle.mdcc_serve_site.specs.Causes.{BootsRefused, ComesAt, IsNoBoot}
+use Rattle.mdcc_serve_site.specs.LogEffects.{CausedOn}
+use Rattle.mdcc_serve_site.specs.Moments.{DiskPasses, MayComeAt}
+use Rattle.mdcc_serve_site.specs.declared.fault.ServeFault.{ServeFault}
 
 -- where the bytes are known a log is one
 pub comes_told : (Told : Type 0) (fault : ServeFault) (rest : List Act) → Told → MayComeAt Told fault rest → ComesAt fault rest

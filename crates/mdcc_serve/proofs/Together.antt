@@ -5,31 +5,31 @@ use Rattle.std.specs.List.{AllByRecursion}
 use Rattle.mdcc_log_file.specs.Area.{payloads}
 use Rattle.mdcc_log_file.specs.declared.fault.LogFault.{LogFault}
 use Rattle.mdcc_disks.specs.Disks.{Disk}
-use Rattle.mdcc_messages.specs.declared.facts.Fact.{Fact}
+use Rattle.mdcc_def_messages.specs.declared.facts.Fact.{Fact}
 use Rattle.mdcc_option.specs.declared.cluster.Cluster.{Cluster}
-use Rattle.mdcc_rules.specs.Boot.{next_boot}
-use Rattle.mdcc_rules.specs.declared.node.BootFault.{BootFault}
-use Rattle.mdcc_runs.specs.Acts.{Act, appended}
-use Rattle.mdcc_runs.specs.Servers.{Log, site_of, starts}
-use Rattle.mdcc_runs.specs.Sites.{Site}
+use Rattle.mdcc_def_rules.specs.Boot.{next_boot}
+use Rattle.mdcc_def_rules.specs.declared.node.BootFault.{BootFault}
+use Rattle.mdcc_def_server_runs.specs.Acts.{Act, facts_appended}
+use Rattle.mdcc_def_server_runs.specs.Servers.{Log, site_of, starts}
+use Rattle.mdcc_def_server_runs.specs.Sites.{Site}
 use Rattle.mdcc_serve.proofs.Kept.{apart, facts_kept, facts_or_more, log_kept}
 use Rattle.mdcc_serve.proofs.Doings.{each_front as each_front_site}
 use Rattle.mdcc_serve.proofs.Opened.{durable_has}
 use Rattle.mdcc_serve.proofs.Others.{elsewhere_in, keeps_fewer, keeps_none, keeps_one, keeps_then, unserved_logs}
 use Rattle.mdcc_serve.proofs.Started.{caused_on, passes_on}
-use Rattle.mdcc_serve.specs.Others.{IsElsewhere, IsNoDiskOf, IsUnserved, KeepsElsewhere, KeepsUnserved}
-use Rattle.mdcc_serve.specs.Serving.{AreLogsOf, IsDurable, IsLogOf}
+use Rattle.mdcc_serve.specs.Others.{IsNoDiskOf, IsNoDiskOfSites, IsUnserved, KeepsElsewhere, KeepsUnserved}
+use Rattle.mdcc_serve.specs.Serving.{AreLogsOf, IsDurable, IsServedLog}
 use Rattle.mdcc_serve.specs.Starts.{AreHeld, FailToStart, FailsToStart, Follow, HasStarted, HaveStarted, IsUntouched, IsOfStart, StopOver, StopsOver, starting}
-use Rattle.mdcc_site.proofs.Joined.{appended_append}
-use Rattle.mdcc_site.proofs.Logged.{disks_same, same_is}
-use Rattle.mdcc_site.specs.Causes.{BootsRefused, ComesAt, IsBootRefused, IsSafeAt, in_flight}
-use Rattle.mdcc_site.specs.Logs.{MayHaveFacts, facts_after, with_facts}
-use Rattle.mdcc_site.specs.Moments.{DiskPasses, KeepsOthers}
-use Rattle.mdcc_site.specs.Room.{OnFull}
-use Rattle.mdcc_site.specs.SiteState.{HoldsLog}
-use Rattle.mdcc_site.specs.declared.fault.ServeFault.{ServeFault}
-use Rattle.mdcc_site.specs.declared.site.Site.{Site as TheSite}
-use Rattle.mdcc_steps.proofs.Each.{each-append}
+use Rattle.mdcc_serve_site.proofs.Joined.{appended_append}
+use Rattle.mdcc_serve_site.proofs.Logged.{disks_same, same_is}
+use Rattle.mdcc_serve_site.specs.Causes.{BootsRefused, ComesAt, IsBootRefused, IsSafeAt, in_flight}
+use Rattle.mdcc_serve_site.specs.Logs.{MayHaveFacts, facts_after, with_facts}
+use Rattle.mdcc_serve_site.specs.Moments.{DiskPasses, KeepsOthers}
+use Rattle.mdcc_serve_site.specs.Room.{OnFull}
+use Rattle.mdcc_serve_site.specs.SiteState.{HoldsLog}
+use Rattle.mdcc_serve_site.specs.declared.fault.ServeFault.{ServeFault}
+use Rattle.mdcc_serve_site.specs.declared.site.Site.{Site as TheSite}
+use Rattle.mdcc_theorem_node_steps.proofs.Each.{each-append}
 
 -- ---- numbers that follow one another
 
@@ -72,7 +72,7 @@ sites_append : (xs ys : List Log) → (starts (xs ++ ys)).sites ≡ (starts xs).
 sites_append [] ys = refl
 sites_append (x ∷ xs) ys = ap (λ (sites : List Site). site_of x ∷ sites) (sites_append xs ys)
 
-quiet_at : (n c : ℕ) (xs : List Log) → Follow n xs → n + length xs ≤ c → appended c (starts xs).acts ≡ []
+quiet_at : (n c : ℕ) (xs : List Log) → Follow n xs → n + length xs ≤ c → facts_appended c (starts xs).acts ≡ []
 quiet_at n c [] f later = refl
 quiet_at n c (x ∷ xs) f later = let e = f.0 in rw (not_is x.centre c (λ is. absurd (omega (e, is, later, arith)))) (quiet_at (n + 1) c xs f.1 (omega (later, arith)))
 
@@ -80,13 +80,13 @@ quiet_at n c (x ∷ xs) f later = let e = f.0 in rw (not_is x.centre c (λ is. a
 boots_after : (n : ℕ) (xs : List Log) (l : Log) → Follow n xs → l.centre ≡ n + length xs → facts_after l.centre l.facts (starts (xs ++ l ∷ [])).acts ≡ next_boot l.facts ∷ l.facts
 boots_after n xs l f is =
     ap (λ (acts : List Act). facts_after l.centre l.facts acts) (boots_append xs (l ∷ []))
-    ∙ ap (with_facts l.facts) (appended_append l.centre (starts xs).acts (starts (l ∷ [])).acts ∙ ap (λ (fs : List Fact). fs ++ appended l.centre (starts (l ∷ [])).acts) (quiet_at n l.centre xs f (omega (is, arith))))
+    ∙ ap (with_facts l.facts) (appended_append l.centre (starts xs).acts (starts (l ∷ [])).acts ∙ ap (λ (fs : List Fact). fs ++ facts_appended l.centre (starts (l ∷ [])).acts) (quiet_at n l.centre xs f (omega (is, arith))))
     ∙ rw (same_is l.centre) refl
 
 -- another centre's are not its own
 boots_elsewhere : (xs : List Log) (l : Log) (c : ℕ) (facts : List Fact) → l.centre ≢ c → facts_after c facts (starts (xs ++ l ∷ [])).acts ≡ facts_after c facts (starts xs).acts
 boots_elsewhere xs l c facts other =
-    let none : appended c (starts xs).acts ++ appended c (starts (l ∷ [])).acts ≡ appended c (starts xs).acts = rw (not_is l.centre c other) (append-nil (appended c (starts xs).acts)) in
+    let none : facts_appended c (starts xs).acts ++ facts_appended c (starts (l ∷ [])).acts ≡ facts_appended c (starts xs).acts = rw (not_is l.centre c other) (append-nil (facts_appended c (starts xs).acts)) in
     ap (λ (acts : List Act). facts_after c facts acts) (boots_append xs (l ∷ [])) ∙ ap (with_facts facts) (appended_append c (starts xs).acts (starts (l ∷ [])).acts ∙ none)
 
 -- it has none of them yet
@@ -157,7 +157,7 @@ each_back P (x ∷ xs) ys h = each_back P xs ys h.1
 module _ {D : Type 0} (disk : D → ℕ → Disk) (may_leave : D → ℕ → List ℕ → Type 0) (every : ℕ) where
   -- ---- a log to which nothing was done
 
-  pub untouched_log : (cluster : Cluster) (old mid : D) (log : Log) (a : ℕ) → log.centre ≡ a → IsUntouched disk may_leave old mid a → IsLogOf disk cluster old log → IsLogOf disk cluster mid log
+  pub untouched_log : (cluster : Cluster) (old mid : D) (log : Log) (a : ℕ) → log.centre ≡ a → IsUntouched disk may_leave old mid a → IsServedLog disk cluster old log → IsServedLog disk cluster mid log
   untouched_log cluster old mid log a of un is =
       let here = subst (λ (n : ℕ). IsUntouched disk may_leave old mid n) (sym of) un in
       record {
@@ -208,7 +208,7 @@ module _ {D : Type 0} (disk : D → ℕ → Disk) (may_leave : D → ℕ → Lis
   -- what is kept by those that run
   unserved_kept : (first end : ℕ) (old new : D) (logs : List Log) → Follow first logs → first + length logs ≤ end → KeepsElsewhere disk may_leave (starts logs).sites old new → KeepsUnserved disk may_leave first end old new
   unserved_kept first end old new logs follow few keeps =
-      keeps_fewer disk may_leave (IsElsewhere (starts logs).sites) (IsUnserved first end) old new (λ p is. unserved_logs first end p logs follow few is) keeps
+      keeps_fewer disk may_leave (IsNoDiskOfSites (starts logs).sites) (IsUnserved first end) old new (λ p is. unserved_logs first end p logs follow few is) keeps
 
   pub none_started : (cluster : Cluster) (first : ℕ) (disks : D) → HaveStarted disk may_leave every cluster first [] disks disks
   none_started cluster first disks = record {
@@ -218,7 +218,7 @@ module _ {D : Type 0} (disk : D → ℕ → Disk) (may_leave : D → ℕ → Lis
     each = tt;
     passes = disks_same disk may_leave disks;
     later = λ a after few. record { first = refl; second = refl; crash_first = λ c left. left; crash_second = λ c left. left };
-    others = keeps_none disk may_leave (IsElsewhere []) disks;
+    others = keeps_none disk may_leave (IsNoDiskOfSites []) disks;
     kept = λ log few is durable. durable_has disk may_leave disks log [] durable is.has;
     over = λ before follow are few. (before, refl);
   }
@@ -276,13 +276,13 @@ module _ {D : Type 0} (disk : D → ℕ → Disk) (may_leave : D → ℕ → Lis
           others : KeepsElsewhere disk may_leave (starts (started.logs ++ has.log ∷ [])).sites old new
           others =
               subst (λ (sites : List Site). KeepsElsewhere disk may_leave sites old new) (sym (sites_append started.logs (has.log ∷ [])))
-              (keeps_then disk may_leave (IsElsewhere ((starts started.logs).sites ++ site_of has.log ∷ [])) old mid new
-              (keeps_fewer disk may_leave (IsElsewhere (starts started.logs).sites) (IsElsewhere ((starts started.logs).sites ++ site_of has.log ∷ [])) old mid
+              (keeps_then disk may_leave (IsNoDiskOfSites ((starts started.logs).sites ++ site_of has.log ∷ [])) old mid new
+              (keeps_fewer disk may_leave (IsNoDiskOfSites (starts started.logs).sites) (IsNoDiskOfSites ((starts started.logs).sites ++ site_of has.log ∷ [])) old mid
               (λ p is. each_front_site (λ (s : Site). IsNoDiskOf p s.centre) (starts started.logs).sites (site_of has.log ∷ []) is) started.others)
-              (keeps_one disk may_leave (IsElsewhere ((starts started.logs).sites ++ site_of has.log ∷ [])) a mid new
+              (keeps_one disk may_leave (IsNoDiskOfSites ((starts started.logs).sites ++ site_of has.log ∷ [])) a mid new
               (λ p is. subst (λ (n : ℕ). IsNoDiskOf p n) has.of (elsewhere_in ((starts started.logs).sites ++ site_of has.log ∷ []) (starts started.logs).sites (site_of has.log) [] p refl is)) has.others))
 
-          kept : (log : Log) → log.centre ≤ 9 → IsLogOf disk cluster old log → IsDurable disk may_leave old log
+          kept : (log : Log) → log.centre ≤ 9 → IsServedLog disk cluster old log → IsDurable disk may_leave old log
               → MayHaveFacts disk may_leave new log.centre (facts_after log.centre log.facts (starts (started.logs ++ has.log ∷ [])).acts) []
           kept log high is durable = elim (cases_eq log.centre a) [
             | inl of ↦
@@ -298,7 +298,7 @@ module _ {D : Type 0} (disk : D → ℕ → Disk) (may_leave : D → ℕ → Lis
 
           over_next : (before rest : List Log) (l : Log) → before ≡ started.logs ++ l ∷ rest → l.centre ≡ a → AreLogsOf disk cluster old (started.logs ++ l ∷ rest) → (more : List Log) × (before ≡ (started.logs ++ has.log ∷ []) ++ more)
           over_next before rest l split of are =
-              let same : has.log ≡ l = has.over l of (untouched_log cluster old mid l a of unfinished (each_back (IsLogOf disk cluster old) started.logs (l ∷ rest) are).0) in
+              let same : has.log ≡ l = has.over l of (untouched_log cluster old mid l a of unfinished (each_back (IsServedLog disk cluster old) started.logs (l ∷ rest) are).0) in
               (rest, split ∙ (ap (λ (log : Log). started.logs ++ log ∷ rest) (sym same) ∙ sym (append_assoc started.logs (has.log ∷ []) rest)))
 
           over : (before : List Log) → Follow first before → AreLogsOf disk cluster old before → length (held ++ next ∷ []) ≤ length before → (more : List Log) × (before ≡ (started.logs ++ has.log ∷ []) ++ more)
@@ -323,7 +323,7 @@ module _ {D : Type 0} (disk : D → ℕ → Disk) (may_leave : D → ℕ → Lis
             stops logs next.1 next.0 next.2 (next_of logs next.1 next.0 follow next.2) follow long are;
       }
         where
-          by_centre : (b : ℕ) (why : BootFault) → fault ≡ ServeFault.Boot b why → (l : Log) → IsLogOf disk cluster old l → l.centre ≡ b → IsBootRefused cluster l.facts why
+          by_centre : (b : ℕ) (why : BootFault) → fault ≡ ServeFault.Boot b why → (l : Log) → IsServedLog disk cluster old l → l.centre ≡ b → IsBootRefused cluster l.facts why
           by_centre b why is l log same =
               let at_fault : b ≡ a = subst (λ (f : ServeFault). IsOfStart a f) is fails.of in
               let of : l.centre ≡ a = same ∙ at_fault in
@@ -344,7 +344,7 @@ module _ {D : Type 0} (disk : D → ℕ → Disk) (may_leave : D → ℕ → Lis
           boots logs are ServeFault.Memory is = tt
 
           -- the log of another centre
-          elsewhere : (next : List Fact) (log : Log) → log.centre ≤ 9 → log.centre ≢ a → IsLogOf disk cluster old log → IsDurable disk may_leave old log
+          elsewhere : (next : List Fact) (log : Log) → log.centre ≤ 9 → log.centre ≢ a → IsServedLog disk cluster old log → IsDurable disk may_leave old log
               → MayHaveFacts disk may_leave new log.centre (facts_after log.centre log.facts (starts started.logs).acts) next
           elsewhere next log high other is durable =
               facts_or_more disk may_leave new log.centre (facts_after log.centre log.facts (starts started.logs).acts) next
@@ -379,7 +379,7 @@ module _ {D : Type 0} (disk : D → ℕ → Disk) (may_leave : D → ℕ → Lis
           stops : (logs rest : List Log) (l : Log) → logs ≡ started.logs ++ l ∷ rest → l.centre ≡ a → Follow first logs → length logs ≡ count → AreLogsOf disk cluster old logs → StopOver disk may_leave every tears cluster logs fault old new
           stops logs rest l split of follow long are =
               let each = subst (λ (xs : List Log). AreLogsOf disk cluster old xs) split are in
-              let own = fails.over l of (untouched_log cluster old mid l a of unfinished (each_back (IsLogOf disk cluster old) started.logs (l ∷ rest) each).0) in
+              let own = fails.over l of (untouched_log cluster old mid l a of unfinished (each_back (IsServedLog disk cluster old) started.logs (l ∷ rest) each).0) in
               record {
                 done = started.logs;
                 left = l ∷ rest;

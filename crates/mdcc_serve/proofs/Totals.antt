@@ -2,10 +2,10 @@
 use Rattle.std.proofs.Common.{◌≡◌, ℕ, zero, suc, ◌+◌, ◌≤◌, ◌<◌, List, [], ◌∷◌, refl, sym, ◌∙◌, ap, subst, arith, get_or, length, take}
 use Rattle.std.specs.List.{AllByRecursion}
 use Rattle.mdcc_base.specs.Counts.{sum_over}
-use Rattle.mdcc_outbox.specs.Shows.{counted}
+use Rattle.mdcc_serve_outbox.specs.Shows.{count_limited}
 use Rattle.mdcc_serve.specs.Totals.{counts_of, with_counts}
 use Rattle.mdcc_serve.specs.declared.served.Served.{Served}
-use Rattle.mdcc_site.specs.declared.site.Site.{Site as TheSite}
+use Rattle.mdcc_serve_site.specs.declared.site.Site.{Site as TheSite}
 
 -- ---- the first items of a list
 
@@ -28,17 +28,17 @@ sum_more f (y ∷ ys) zero x within is = let e = ap f is in omega (e, arith)
 sum_more f (y ∷ ys) (suc i) x within is = let e = sum_more f ys i x (omega (within, arith)) is in omega (e, arith)
 
 -- a count that stands still at its end
-still_at_end : (a b : ℕ) → counted (counted a + b) ≡ counted (a + b)
+still_at_end : (a b : ℕ) → count_limited (count_limited a + b) ≡ count_limited (a + b)
 still_at_end a b = omega arith
 
-count_more : {A : Type 0} (f : A → ℕ) (xs : List A) (i : ℕ) (x : A) → i < length xs → x ≡ get_or xs i x → counted (counted (sum_over f (take i xs)) + f x) ≡ counted (sum_over f (take (suc i) xs))
-count_more f xs i x within is = still_at_end (sum_over f (take i xs)) (f x) ∙ ap counted (sym (sum_more f xs i x within is))
+count_more : {A : Type 0} (f : A → ℕ) (xs : List A) (i : ℕ) (x : A) → i < length xs → x ≡ get_or xs i x → count_limited (count_limited (sum_over f (take i xs)) + f x) ≡ count_limited (sum_over f (take (suc i) xs))
+count_more f xs i x within is = still_at_end (sum_over f (take i xs)) (f x) ∙ ap count_limited (sym (sum_more f xs i x within is))
 
 pub counts_more : (turns : ℕ) (held : List TheSite) (i : ℕ) (h : TheSite) → i < length held → h ≡ get_or held i h → with_counts (counts_of turns (take i held)) h ≡ counts_of turns (take (suc i) held)
 counts_more turns held i h within is =
-    counts (counted (counted (sum_over (λ s. s.steps) (take i held)) + h.steps)) (counted (sum_over (λ s. s.steps) (take (suc i) held)))
-    (counted (counted (sum_over (λ s. s.dropped) (take i held)) + h.dropped)) (counted (sum_over (λ s. s.dropped) (take (suc i) held)))
-    (counted (counted (sum_over (λ s. s.sender.lost) (take i held)) + h.sender.lost)) (counted (sum_over (λ s. s.sender.lost) (take (suc i) held)))
+    counts (count_limited (count_limited (sum_over (λ s. s.steps) (take i held)) + h.steps)) (count_limited (sum_over (λ s. s.steps) (take (suc i) held)))
+    (count_limited (count_limited (sum_over (λ s. s.dropped) (take i held)) + h.dropped)) (count_limited (sum_over (λ s. s.dropped) (take (suc i) held)))
+    (count_limited (count_limited (sum_over (λ s. s.sender.lost) (take i held)) + h.sender.lost)) (count_limited (sum_over (λ s. s.sender.lost) (take (suc i) held)))
     (count_more (λ (s : TheSite). s.steps) held i h within is) (count_more (λ (s : TheSite). s.dropped) held i h within is) (count_more (λ (s : TheSite). s.sender.lost) held i h within is)
   where
     counts : (a b c d e f : ℕ) → a ≡ b → c ≡ d → e ≡ f

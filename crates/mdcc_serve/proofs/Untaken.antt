@@ -2,17 +2,17 @@
 use Rattle.std.proofs.Common.{◌≡◌, ℕ, ◌+◌, List, Option, Result, Ok, Err, IsTrue, refl, subst, inl, inr, arith}
 use Rattle.std.specs.Prelude.{IfErr, is_ok}
 use Rattle.mdcc_disks.specs.Disks.{Disk}
-use Rattle.mdcc_endings.specs.Logs.{IsTold, LogRefusal, node_at}
+use Rattle.mdcc_command_endings.specs.Logs.{AreAreasTold, LogRefusal, node_booted_at}
 use Rattle.mdcc_link.specs.Link.{LinkCall}
 use Rattle.mdcc_log_file.specs.declared.fault.LogFault.{LogFault}
-use Rattle.mdcc_messages.specs.declared.facts.Fact.{Fact}
+use Rattle.mdcc_def_messages.specs.declared.facts.Fact.{Fact}
 use Rattle.mdcc_option.specs.declared.cluster.Cluster.{Cluster}
-use Rattle.mdcc_rules.specs.declared.node.BootFault.{BootFault}
-use Rattle.mdcc_runs.specs.Acts.{Act}
+use Rattle.mdcc_def_rules.specs.declared.node.BootFault.{BootFault}
+use Rattle.mdcc_def_server_runs.specs.Acts.{Act}
 use Rattle.mdcc_serve.specs.Openings.{BindsSome, LinesSome}
 use Rattle.mdcc_serve.specs.Refusals.{AllBoot, AreTold, MayFollow, SaysAt, SaysOfLogs}
-use Rattle.mdcc_serve.specs.Stays.{AllStay, HasRefused, IsLogRefused, UnlessDisk}
-use Rattle.mdcc_site.specs.declared.fault.ServeFault.{ServeFault}
+use Rattle.mdcc_serve.specs.Stays.{AllStay, HasRefused, IsLogRefused, UnlessDiskFault}
+use Rattle.mdcc_serve_site.specs.declared.fault.ServeFault.{ServeFault}
 
 -- ---- once all are started no log is refused
 
@@ -28,7 +28,7 @@ line_refuses held faults acts fault old new stop refused = elim stop.comes [
 -- ---- before
 
 pub start_refuses : {D L O : Type 0} (disk : D → ℕ → Disk) (may_leave : D → ℕ → List ℕ → Type 0) (tears : ℕ → Type 0) (cluster : Cluster) (calls : L → Option (List LinkCall)) (lost : L → ℕ) (first end : ℕ) (old new : D) (link : L) (out : O) (fault : ServeFault)
-    → UnlessDisk fault (AllStay disk may_leave tears cluster old new first end) → IsLogRefused fault → HasRefused disk may_leave tears calls lost cluster first end old new link link out out
+    → UnlessDiskFault fault (AllStay disk may_leave tears cluster old new first end) → IsLogRefused fault → HasRefused disk may_leave tears calls lost cluster first end old new link link out out
 start_refuses disk may_leave tears cluster calls lost first end old new link out (ServeFault.Disk a) stay refused = absurd refused
 start_refuses disk may_leave tears cluster calls lost first end old new link out (ServeFault.Log a fault) stay refused = record { link = refl; sends = refl; output = refl; logs = stay }
 start_refuses disk may_leave tears cluster calls lost first end old new link out (ServeFault.Boot a why) stay refused = record { link = refl; sends = refl; output = refl; logs = stay }
@@ -45,16 +45,16 @@ not_ok (Ok facts) why is ok = absurd (cc)
 not_ok (Err other) why is ok = absurd (cc)
 
 module _ {D : Type 0} (disk : D → ℕ → Disk) (cluster : Cluster) where
-  says_no : (disks : D) (first end at : ℕ) (fault : ServeFault) → IsTrue (is_ok (node_at disk cluster disks at)) → SaysAt disk cluster disks at fault → (AreTold disk cluster disks first end → IsTold disk disks at) → IsLogRefused fault → AreTold disk cluster disks first end → ⊥
+  says_no : (disks : D) (first end at : ℕ) (fault : ServeFault) → IsTrue (is_ok (node_booted_at disk cluster disks at)) → SaysAt disk cluster disks at fault → (AreTold disk cluster disks first end → AreAreasTold disk disks at) → IsLogRefused fault → AreTold disk cluster disks first end → ⊥
   says_no disks first end at (ServeFault.Disk a) ok says known refused told = refused
-  says_no disks first end at (ServeFault.Log a (LogFault.NotALog offset)) ok says known refused told = not_ok (node_at disk cluster disks at) (LogRefusal.NotALog offset) (says (known told)).1 ok
+  says_no disks first end at (ServeFault.Log a (LogFault.NotALog offset)) ok says known refused told = not_ok (node_booted_at disk cluster disks at) (LogRefusal.NotALog offset) (says (known told)).1 ok
   says_no disks first end at (ServeFault.Log a LogFault.LogFull) ok says known refused told = refused
   says_no disks first end at (ServeFault.Log a LogFault.DiskFault) ok says known refused told = refused
   says_no disks first end at (ServeFault.Log a LogFault.Memory) ok says known refused told = refused
   says_no disks first end at (ServeFault.Boot a BootFault.Memory) ok says known refused told = says
-  says_no disks first end at (ServeFault.Boot a BootFault.Epochs) ok says known refused told = not_ok (node_at disk cluster disks at) (LogRefusal.NoNode BootFault.Epochs) (says.1 (known told)) ok
-  says_no disks first end at (ServeFault.Boot a (BootFault.NotARun n)) ok says known refused told = not_ok (node_at disk cluster disks at) (LogRefusal.NoNode (BootFault.NotARun n)) (says.1 (known told)) ok
-  says_no disks first end at (ServeFault.Boot a (BootFault.Room needed cells)) ok says known refused told = not_ok (node_at disk cluster disks at) (LogRefusal.NoNode (BootFault.Room needed cells)) (says.1 (known told)) ok
+  says_no disks first end at (ServeFault.Boot a BootFault.Epochs) ok says known refused told = not_ok (node_booted_at disk cluster disks at) (LogRefusal.NoNode BootFault.Epochs) (says.1 (known told)) ok
+  says_no disks first end at (ServeFault.Boot a (BootFault.NotARun n)) ok says known refused told = not_ok (node_booted_at disk cluster disks at) (LogRefusal.NoNode (BootFault.NotARun n)) (says.1 (known told)) ok
+  says_no disks first end at (ServeFault.Boot a (BootFault.Room needed cells)) ok says known refused told = not_ok (node_booted_at disk cluster disks at) (LogRefusal.NoNode (BootFault.Room needed cells)) (says.1 (known told)) ok
   says_no disks first end at ServeFault.Link ok says known refused told = refused
   says_no disks first end at ServeFault.Output ok says known refused told = refused
   says_no disks first end at ServeFault.Serial ok says known refused told = refused
@@ -83,8 +83,8 @@ module _ {D : Type 0} (disk : D → ℕ → Disk) (cluster : Cluster) where
 
 pub one_refuses : {D L O T : Type 0} (disk : D → ℕ → Disk) (may_leave : D → ℕ → List ℕ → Type 0) (tears : ℕ → Type 0) (calls : L → Option (List LinkCall)) (lost : L → ℕ) (cluster : Cluster) (first centre : ℕ) (old new : D) (link link_new : L) (out out_new : O) (result : Result T ServeFault) → first ≡ centre
     → IfErr result (λ fault. IsLogRefused fault → AreTold disk cluster old first (first + 1) → HasRefused disk may_leave tears calls lost cluster first (first + 1) old new link link_new out out_new)
-    → IfErr result (λ fault. IsLogRefused fault → IsTold disk old centre → HasRefused disk may_leave tears calls lost cluster centre (centre + 1) old new link link_new out out_new)
+    → IfErr result (λ fault. IsLogRefused fault → AreAreasTold disk old centre → HasRefused disk may_leave tears calls lost cluster centre (centre + 1) old new link link_new out out_new)
 one_refuses disk may_leave tears calls lost cluster first centre old new link link_new out out_new (Ok done) is h = tt
 one_refuses disk may_leave tears calls lost cluster first centre old new link link_new out out_new (Err fault) is h = λ refused told.
     subst (λ (n : ℕ). HasRefused disk may_leave tears calls lost cluster n (n + 1) old new link link_new out out_new) is
-    (h refused (λ a low high. (let same : centre ≡ a = omega (is, low, high, arith) in subst (IsTold disk old) same told)))
+    (h refused (λ a low high. (let same : centre ≡ a = omega (is, low, high, arith) in subst (AreAreasTold disk old) same told)))

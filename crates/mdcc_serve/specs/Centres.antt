@@ -4,20 +4,20 @@ use Rattle.std.specs.Prelude.{Bool, Err, IsTrue, List, Ok, Option, Result, [], l
 use Rattle.mdcc_base.specs.Counts.{sum_over}
 use Rattle.mdcc_config.specs.declared.config.Config.{Config}
 use Rattle.mdcc_option.specs.declared.cluster.Cluster.{Cluster}
-use Rattle.mdcc_runs.specs.Acts.{Act}
-use Rattle.mdcc_runs.specs.Sending.{persist_then_send}
-use Rattle.mdcc_runs.specs.Servers.{Server, persist_all_then_send, turns_of}
-use Rattle.mdcc_runs.specs.Sites.{Doing, Site}
-use Rattle.mdcc_runs.specs.Turns.{Given, turn_of}
+use Rattle.mdcc_def_server_runs.specs.Acts.{Act}
+use Rattle.mdcc_def_server_runs.specs.Sending.{persist_then_send}
+use Rattle.mdcc_def_server_runs.specs.Servers.{Server, persist_all_then_send, turns_of}
+use Rattle.mdcc_def_server_runs.specs.Sites.{Doing, Site}
+use Rattle.mdcc_def_server_runs.specs.Turns.{Given, turn_of}
 use Rattle.mdcc_serve.specs.Others.{KeepsElsewhere}
 use Rattle.mdcc_serve.specs.Stages.{InPart, MidEnd, MidTurn, after_these}
-use Rattle.mdcc_site.specs.Causes.{IsNoBoot, in_flight}
-use Rattle.mdcc_site.specs.Logs.{MayHaveFacts, facts_after}
-use Rattle.mdcc_site.specs.Moments.{Broke, Did, Moment, Outside}
-use Rattle.mdcc_site.specs.SiteState.{Goes, HoldsSite, IsServed, OnSerial, place}
-use Rattle.mdcc_site.specs.Waiting.{MayWait}
-use Rattle.mdcc_site.specs.declared.fault.ServeFault.{ServeFault}
-use Rattle.mdcc_site.specs.declared.site.Site.{Site as TheSite}
+use Rattle.mdcc_serve_site.specs.Causes.{IsNoBoot, in_flight}
+use Rattle.mdcc_serve_site.specs.Logs.{MayHaveFacts, facts_after}
+use Rattle.mdcc_serve_site.specs.Moments.{Broke, Did, Moment, Outside}
+use Rattle.mdcc_serve_site.specs.SiteState.{Goes, HoldsSite, IsServed, OnSerial, place}
+use Rattle.mdcc_serve_site.specs.Waiting.{MayWait}
+use Rattle.mdcc_serve_site.specs.declared.fault.ServeFault.{ServeFault}
+use Rattle.mdcc_serve_site.specs.declared.site.Site.{Site as TheSite}
 
 -- the centres, with the disks, the link and the output
 pub record Places (D L O : Type 0) : Type 0 where

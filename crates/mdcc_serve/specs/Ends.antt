@@ -2,19 +2,19 @@
 use Rattle.std.specs.List.{AllByRecursion}
 use Rattle.std.specs.Prelude.{Err, List, Ok, Result, [], length, ℕ, ◌++◌, ◌<◌, ◌^◌, ◌∷◌, ◌≡◌, ◌⊎◌}
 use Rattle.mdcc_config.specs.declared.config.Config.{Config}
-use Rattle.mdcc_runs.specs.Acts.{Act}
-use Rattle.mdcc_runs.specs.Sending.{persist_then_send}
-use Rattle.mdcc_runs.specs.Servers.{after_last, persist_all_then_send}
-use Rattle.mdcc_runs.specs.Sites.{Site}
-use Rattle.mdcc_runs.specs.Turns.{Given}
+use Rattle.mdcc_def_server_runs.specs.Acts.{Act}
+use Rattle.mdcc_def_server_runs.specs.Sending.{persist_then_send}
+use Rattle.mdcc_def_server_runs.specs.Servers.{after_last, persist_all_then_send}
+use Rattle.mdcc_def_server_runs.specs.Sites.{Site}
+use Rattle.mdcc_def_server_runs.specs.Turns.{Given}
 use Rattle.mdcc_serve.specs.Centres.{AllFinish, AllStop, Places, TurnsStop, places}
 use Rattle.mdcc_serve.specs.Stages.{MidEnd, after_these}
 use Rattle.mdcc_serve.specs.Totals.{counts_of, done_of}
 use Rattle.mdcc_serve.specs.declared.served.Served.{Served}
-use Rattle.mdcc_site.specs.Moments.{Outside}
-use Rattle.mdcc_site.specs.SiteState.{PrintsAll, PrintsSome}
-use Rattle.mdcc_site.specs.declared.fault.ServeFault.{ServeFault}
-use Rattle.mdcc_site.specs.declared.site.Site.{Site as TheSite}
+use Rattle.mdcc_serve_site.specs.Moments.{Outside}
+use Rattle.mdcc_serve_site.specs.SiteState.{PrintsAll, PrintsSome}
+use Rattle.mdcc_serve_site.specs.declared.fault.ServeFault.{ServeFault}
+use Rattle.mdcc_serve_site.specs.declared.site.Site.{Site as TheSite}
 
 -- the serials of each fit
 abbrev pub SerialsFit : List TheSite → Type 0

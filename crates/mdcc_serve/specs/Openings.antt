@@ -6,20 +6,20 @@ use Rattle.mdcc_base.specs.Causes.{Rose}
 use Rattle.mdcc_config.specs.IsConfig.{address_above}
 use Rattle.mdcc_config.specs.declared.config.Config.{Config}
 use Rattle.mdcc_link.specs.Link.{LinkCall}
-use Rattle.mdcc_outbox.specs.Shows.{Records, calls_of}
-use Rattle.mdcc_runs.specs.Acts.{Act, printed}
-use Rattle.mdcc_runs.specs.Servers.{Log, bound_at, opened}
-use Rattle.mdcc_runs.specs.declared.lines.ServerLine.{ServerLine}
+use Rattle.mdcc_serve_outbox.specs.Shows.{Records, calls_of}
+use Rattle.mdcc_def_server_runs.specs.Acts.{Act, printed}
+use Rattle.mdcc_def_server_runs.specs.Servers.{Log, bound_at, opened}
+use Rattle.mdcc_def_server_runs.specs.declared.lines.ServerLine.{ServerLine}
 use Rattle.mdcc_serve.specs.Centres.{AllFinish, Ascend, Places, all_seen}
 use Rattle.mdcc_serve.specs.Others.{KeepsUnserved}
 use Rattle.mdcc_serve.specs.Serving.{AreLogsOf, IsDurable}
 use Rattle.mdcc_serve.specs.Starts.{Follow}
-use Rattle.mdcc_site.specs.Causes.{BootsRefused, IsAtLink, IsPrinting, IsSafeAt, failed_next, in_flight, text_begun}
-use Rattle.mdcc_site.specs.Logs.{MayHaveFacts, facts_after}
-use Rattle.mdcc_site.specs.Moments.{Broke, Caused, Outside}
-use Rattle.mdcc_site.specs.SiteState.{OnSerial, PrintsAll}
-use Rattle.mdcc_site.specs.declared.fault.ServeFault.{ServeFault}
-use Rattle.mdcc_site.specs.declared.site.Site.{Site as TheSite}
+use Rattle.mdcc_serve_site.specs.Causes.{BootsRefused, IsAtLink, IsPrinting, IsSafeAt, failed_next, in_flight, text_begun}
+use Rattle.mdcc_serve_site.specs.Logs.{MayHaveFacts, facts_after}
+use Rattle.mdcc_serve_site.specs.Moments.{Broke, Caused, Outside}
+use Rattle.mdcc_serve_site.specs.SiteState.{OnSerial, PrintsAll}
+use Rattle.mdcc_serve_site.specs.declared.fault.ServeFault.{ServeFault}
+use Rattle.mdcc_serve_site.specs.declared.site.Site.{Site as TheSite}
 
 -- the endpoints of a centre: its own, and then its client's
 abbrev pub binds_of : Config → ℕ → List Act

@@ -2,15 +2,15 @@
 use Rattle.std.specs.List.{AllByRecursion}
 use Rattle.std.specs.Prelude.{List, ℕ, ◌+◌, ◌<◌, ◌≢◌, ◌≡◌, ◌≤◌}
 use Rattle.mdcc_disks.specs.Disks.{Disk, Within}
-use Rattle.mdcc_runs.specs.Sites.{Site}
+use Rattle.mdcc_def_server_runs.specs.Sites.{Site}
 
 -- no disk of the centre of this number
 abbrev pub IsNoDiskOf : ℕ → ℕ → Type 0
 IsNoDiskOf p a = (p ≢ a) × (p ≢ a + 16)
 
 -- no disk of one of these centres
-abbrev pub IsElsewhere : List Site → ℕ → Type 0
-IsElsewhere sites p = AllByRecursion (λ site. IsNoDiskOf p site.centre) sites
+abbrev pub IsNoDiskOfSites : List Site → ℕ → Type 0
+IsNoDiskOfSites sites p = AllByRecursion (λ site. IsNoDiskOf p site.centre) sites
 
 -- no disk of a centre with a number from the first to below the end
 abbrev pub IsUnserved : ℕ → ℕ → ℕ → Type 0
@@ -23,7 +23,7 @@ module _ {D : Type 0} (disk : D → ℕ → Disk) (may_leave : D → ℕ → Lis
     pub crash : (p : ℕ) → Which p → Within (may_leave old p) (may_leave new p)
 
   abbrev pub KeepsElsewhere : List Site → D → D → Type 0
-  KeepsElsewhere sites old new = KeepsDisks (IsElsewhere sites) old new
+  KeepsElsewhere sites old new = KeepsDisks (IsNoDiskOfSites sites) old new
 
   abbrev pub KeepsUnserved : ℕ → ℕ → D → D → Type 0
   KeepsUnserved first end old new = KeepsDisks (IsUnserved first end) old new

@@ -7,16 +7,16 @@ use Rattle.mdcc_config.specs.declared.config.Config.{Config}
 use Rattle.mdcc_disks.specs.Disks.{Disk, Only}
 use Rattle.mdcc_link.specs.Link.{LinkCall}
 use Rattle.mdcc_option.specs.declared.cluster.Cluster.{Cluster}
-use Rattle.mdcc_centre.specs.Logged.{AreLogged}
-use Rattle.mdcc_runs.specs.Acts.{Act, but_answers, dropped_in, lost_in, printed, steps_in}
-use Rattle.mdcc_runs.specs.Servers.{Log, served}
-use Rattle.mdcc_runs.specs.Sites.{Site}
-use Rattle.mdcc_runs.specs.Turns.{Given}
-use Rattle.mdcc_site.specs.Causes.{BootsRefused, ComesAt, IsSafeAt, failed_by, in_flight, text_begun}
-use Rattle.mdcc_outbox.specs.Shows.{Records, calls_of, counted, failed_in}
-use Rattle.mdcc_site.specs.Logs.{HasFacts, KeepsFacts, MayHaveFacts, facts_after}
-use Rattle.mdcc_site.specs.Room.{OnFull}
-use Rattle.mdcc_site.specs.declared.fault.ServeFault.{ServeFault}
+use Rattle.mdcc_node_log.specs.Logged.{AreLogged}
+use Rattle.mdcc_def_server_runs.specs.Acts.{Act, but_answers, dropped_in, lost_in, printed, steps_in}
+use Rattle.mdcc_def_server_runs.specs.Servers.{Log, served}
+use Rattle.mdcc_def_server_runs.specs.Sites.{Site}
+use Rattle.mdcc_def_server_runs.specs.Turns.{Given}
+use Rattle.mdcc_serve_site.specs.Causes.{BootsRefused, ComesAt, IsSafeAt, failed_by, in_flight, text_begun}
+use Rattle.mdcc_serve_outbox.specs.Shows.{Records, calls_of, count_limited, failed_in}
+use Rattle.mdcc_serve_site.specs.Logs.{HasFacts, KeepsFacts, MayHaveFacts, facts_after}
+use Rattle.mdcc_serve_site.specs.Room.{OnFull}
+use Rattle.mdcc_serve_site.specs.declared.fault.ServeFault.{ServeFault}
 use Rattle.mdcc_serve.specs.Stages.{StopsAt, done_line}
 use Rattle.mdcc_serve.specs.declared.served.Served.{Served}
 
@@ -24,7 +24,7 @@ use Rattle.mdcc_serve.specs.declared.served.Served.{Served}
 
 -- The acts of a server over these logs, for what its receives gave in each of so many turns, whatever the link answered to sends,
 -- with the last line.
-pub record IsRun (config : Config) (logs : List Log) (turns : ℕ) (acts : List Act) : Type 0 where
+pub record IsServerRun (config : Config) (logs : List Log) (turns : ℕ) (acts : List Act) : Type 0 where
   pub given : List (List Given)
   pub turns_made : length given ≡ turns
   pub each : AllByRecursion (λ turn. length turn ≡ length logs) given
@@ -39,14 +39,14 @@ HasSerials site = site.sent < 2 ^ 32
 -- ---- the logs before
 
 -- the log of a centre that tells its bytes, with facts that it may have added
-pub record IsLogOf {D : Type 0} (disk : D → ℕ → Disk) (cluster : Cluster) (disks : D) (log : Log) : Type 0 where
+pub record IsServedLog {D : Type 0} (disk : D → ℕ → Disk) (cluster : Cluster) (disks : D) (log : Log) : Type 0 where
   pub told : IsTrue (disk disks log.centre).told
   pub told_other : IsTrue (disk disks (log.centre + 16)).told
   pub has : HasFacts disk disks log.centre log.facts
   pub allowed : AreLogged cluster log.facts
 
 abbrev pub AreLogsOf : {D : Type 0} → (D → ℕ → Disk) → Cluster → D → List Log → Type 0
-AreLogsOf disk cluster disks logs = AllByRecursion (IsLogOf disk cluster disks) logs
+AreLogsOf disk cluster disks logs = AllByRecursion (IsServedLog disk cluster disks) logs
 
 -- ---- what it left
 
@@ -66,14 +66,14 @@ module _ {D L O : Type 0} (disk : D → ℕ → Disk) (may_leave : D → ℕ →
   -- All turns were made, and nothing is pending.
   pub record Serves (config : Config) (logs : List Log) (turns : ℕ) (result : Served) (disks : D) (link_old link_new : L) (out_old out_new : O) : Type 0 where
     pub acts : List Act
-    pub run : IsRun config logs turns acts
+    pub run : IsServerRun config logs turns acts
     pub left : Leaves acts [] [] link_old link_new out_old out_new
     pub kept : AllByRecursion (λ site. KeepsFacts disk may_leave config.checkpoint disks site.centre site.node.facts) (served config logs run.given).sites
     pub serials : AllByRecursion HasSerials (served config logs run.given).sites
     pub turns_told : result.turns ≡ turns
-    pub steps_told : result.steps ≡ counted (steps_in acts)
-    pub dropped_told : result.dropped ≡ counted (dropped_in acts)
-    pub lost_told : result.lost ≡ counted (lost_in acts)
+    pub steps_told : result.steps ≡ count_limited (steps_in acts)
+    pub dropped_told : result.dropped ≡ count_limited (dropped_in acts)
+    pub lost_told : result.lost ≡ count_limited (lost_in acts)
 
   -- It ended before: of the turns that were made a prefix of the acts was done, and this is what comes next. A log that was durable has
   -- the facts that were appended, or where its disk failed perhaps those that were being appended too, all of them, whatever a crash

@@ -2,15 +2,15 @@
 use Rattle.std.specs.List.{AllByRecursion}
 use Rattle.std.specs.Prelude.{List, [], fold, length, ℕ, ◌++◌, ◌<◌, ◌∷◌, ◌≡◌, ◌⊎◌}
 use Rattle.mdcc_config.specs.declared.config.Config.{Config}
-use Rattle.mdcc_outbox.specs.Shows.{counted}
-use Rattle.mdcc_runs.specs.Acts.{Act, but_answers, dropped_in, lost_in, steps_in}
-use Rattle.mdcc_runs.specs.Sending.{persist_then_send}
-use Rattle.mdcc_runs.specs.Servers.{Log, Server, after_turn, opened, persist_all_then_send, served, turns_of}
-use Rattle.mdcc_runs.specs.Sites.{Site}
-use Rattle.mdcc_runs.specs.Turns.{Given, turn_of}
-use Rattle.mdcc_runs.specs.declared.lines.ServerLine.{ServerLine}
-use Rattle.mdcc_site.specs.SiteState.{OnSerial}
-use Rattle.mdcc_site.specs.declared.fault.ServeFault.{ServeFault}
+use Rattle.mdcc_serve_outbox.specs.Shows.{count_limited}
+use Rattle.mdcc_def_server_runs.specs.Acts.{Act, but_answers, dropped_in, lost_in, steps_in}
+use Rattle.mdcc_def_server_runs.specs.Sending.{persist_then_send}
+use Rattle.mdcc_def_server_runs.specs.Servers.{Log, Server, after_turn, opened, persist_all_then_send, served, turns_of}
+use Rattle.mdcc_def_server_runs.specs.Sites.{Site}
+use Rattle.mdcc_def_server_runs.specs.Turns.{Given, turn_of}
+use Rattle.mdcc_def_server_runs.specs.declared.lines.ServerLine.{ServerLine}
+use Rattle.mdcc_serve_site.specs.SiteState.{OnSerial}
+use Rattle.mdcc_serve_site.specs.declared.fault.ServeFault.{ServeFault}
 
 -- ---- the centre at which it ended
 
@@ -49,7 +49,7 @@ after_turns config logs given = fold (after_turn config) (opened config logs) gi
 
 -- the last line
 abbrev pub done_line : ℕ → List Act → ServerLine
-done_line turns acts = ServerLine.Done turns (counted (steps_in acts)) (counted (dropped_in acts)) (counted (lost_in acts))
+done_line turns acts = ServerLine.Done turns (count_limited (steps_in acts)) (count_limited (dropped_in acts)) (count_limited (lost_in acts))
 
 -- While it opened; no message has a serial then.
 pub record StopsInOpening (config : Config) (logs : List Log) (fault : ServeFault) (acts rest : List Act) : Type 0 where

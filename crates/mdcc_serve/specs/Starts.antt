@@ -2,32 +2,32 @@
 use Rattle.std.specs.List.{AllByRecursion}
 use Rattle.std.specs.Prelude.{List, [], length, ⊤, ℕ, ◌+◌, ◌++◌, ◌∷◌, ◌≡◌, ◌≤◌, ◌⊎◌}
 use Rattle.mdcc_disks.specs.Disks.{Disk, Within}
-use Rattle.mdcc_centre.specs.Nodes.{CentreStore, IsNodeOf}
-use Rattle.mdcc_messages.specs.Spelling.{encodings_of}
-use Rattle.mdcc_messages.specs.declared.facts.Fact.{Fact}
+use Rattle.mdcc_node_log.specs.Nodes.{CentreStore, IsNodeOf}
+use Rattle.mdcc_def_messages.specs.Spelling.{encodings_of}
+use Rattle.mdcc_def_messages.specs.declared.facts.Fact.{Fact}
 use Rattle.mdcc_node.specs.declared.node.Node.{Node}
 use Rattle.mdcc_option.specs.declared.cluster.Cluster.{Cluster}
-use Rattle.mdcc_protocol.specs.Facts.{epoch_of}
-use Rattle.mdcc_protocol.specs.Volatile.{initial_volatile}
-use Rattle.mdcc_centre.specs.Logged.{AreLogged}
-use Rattle.mdcc_centre.specs.declared.fault.StartFault.{StartFault}
-use Rattle.mdcc_centre.specs.declared.starting.Running.{Running}
-use Rattle.mdcc_rules.specs.Boot.{next_boot}
-use Rattle.mdcc_rules.specs.declared.node.BootFault.{BootFault}
-use Rattle.mdcc_runs.specs.Acts.{Act}
-use Rattle.mdcc_runs.specs.Servers.{Log, site_of, starts}
+use Rattle.mdcc_def_protocol.specs.Facts.{epoch_of}
+use Rattle.mdcc_def_protocol.specs.Volatile.{initial_volatile}
+use Rattle.mdcc_node_log.specs.Logged.{AreLogged}
+use Rattle.mdcc_node_log.specs.declared.fault.StartFault.{StartFault}
+use Rattle.mdcc_node_log.specs.declared.starting.Running.{Running}
+use Rattle.mdcc_def_rules.specs.Boot.{next_boot}
+use Rattle.mdcc_def_rules.specs.declared.node.BootFault.{BootFault}
+use Rattle.mdcc_def_server_runs.specs.Acts.{Act}
+use Rattle.mdcc_def_server_runs.specs.Servers.{Log, site_of, starts}
 use Rattle.mdcc_serve.specs.Others.{KeepsElsewhere, KeepsUnserved}
-use Rattle.mdcc_serve.specs.Serving.{AreLogsOf, IsDurable, IsLogOf}
-use Rattle.mdcc_serve.specs.Stays.{LogStays, UnlessDisk}
-use Rattle.mdcc_site.specs.Causes.{BootsRefused, ComesAt, IsBootRefused, IsSafeAt, in_flight}
-use Rattle.mdcc_site.specs.LogEffects.{CausedOn, log_fault_of}
-use Rattle.mdcc_site.specs.Logs.{MayHaveFacts, facts_after}
-use Rattle.mdcc_site.specs.Moments.{DiskPasses, KeepsOthers}
-use Rattle.mdcc_site.specs.Room.{OnFull}
-use Rattle.mdcc_site.specs.SiteState.{HoldsLog, IsSite}
-use Rattle.mdcc_site.specs.declared.fault.ServeFault.{ServeFault}
-use Rattle.mdcc_site.specs.declared.site.Site.{Site as TheSite}
-use Rattle.mdcc_steps.specs.NodeInvariant.{IsNode}
+use Rattle.mdcc_serve.specs.Serving.{AreLogsOf, IsDurable, IsServedLog}
+use Rattle.mdcc_serve.specs.Stays.{LogStays, UnlessDiskFault}
+use Rattle.mdcc_serve_site.specs.Causes.{BootsRefused, ComesAt, IsBootRefused, IsSafeAt, in_flight}
+use Rattle.mdcc_serve_site.specs.LogEffects.{CausedOn, log_fault_of}
+use Rattle.mdcc_serve_site.specs.Logs.{MayHaveFacts, facts_after}
+use Rattle.mdcc_serve_site.specs.Moments.{DiskPasses, KeepsOthers}
+use Rattle.mdcc_serve_site.specs.Room.{OnFull}
+use Rattle.mdcc_serve_site.specs.SiteState.{HoldsLog, IsSite}
+use Rattle.mdcc_serve_site.specs.declared.fault.ServeFault.{ServeFault}
+use Rattle.mdcc_serve_site.specs.declared.site.Site.{Site as TheSite}
+use Rattle.mdcc_theorem_node_steps.specs.NodeInvariant.{IsNode}
 
 -- ---- its node
 
@@ -47,8 +47,8 @@ pub record GivesNode (cluster : Cluster) (centre : ℕ) (all : List (List ℕ)) 
   pub over : (before : List Fact) → AreLogged cluster before → all ≡ encodings_of before → facts ≡ before
 
 -- They give none: there was no memory, or by their facts.
-abbrev pub GivesNone : Cluster → ℕ → List (List ℕ) → ServeFault → Type 0
-GivesNone cluster centre all fault =
+abbrev pub GivesNoServer : Cluster → ℕ → List (List ℕ) → ServeFault → Type 0
+GivesNoServer cluster centre all fault =
     (fault ≡ ServeFault.Memory)
     ⊎ ((why : BootFault) × (fault ≡ ServeFault.Boot centre why) × ((before : List Fact) → AreLogged cluster before → all ≡ encodings_of before → IsBootRefused cluster before why))
 
@@ -90,7 +90,7 @@ module _ {D : Type 0} (disk : D → ℕ → Disk) (may_leave : D → ℕ → Lis
     pub passes : DiskPasses disk may_leave old new
     pub others : KeepsOthers disk may_leave centre old new
     pub stays : LogStays disk may_leave tears cluster old new centre
-    pub over : (before : Log) → before.centre ≡ centre → IsLogOf disk cluster old before → facts ≡ before.facts
+    pub over : (before : Log) → before.centre ≡ centre → IsServedLog disk cluster old before → facts ≡ before.facts
 
   -- The centre runs, with the facts of its log and the new boot.
   pub record HasStarted (tears : ℕ → Type 0) (cluster : Cluster) (centre : ℕ) (held : TheSite) (old new : D) : Type 0 where
@@ -102,7 +102,7 @@ module _ {D : Type 0} (disk : D → ℕ → Disk) (may_leave : D → ℕ → Lis
     pub passes : DiskPasses disk may_leave old new
     pub others : KeepsOthers disk may_leave centre old new
     pub stays : LogStays disk may_leave tears cluster old new centre
-    pub over : (before : Log) → before.centre ≡ centre → IsLogOf disk cluster old before → log ≡ before
+    pub over : (before : Log) → before.centre ≡ centre → IsServedLog disk cluster old before → log ≡ before
 
   module _ (tears : ℕ → Type 0) where
     -- over a log of facts that it may have added
@@ -118,8 +118,8 @@ module _ {D : Type 0} (disk : D → ℕ → Disk) (may_leave : D → ℕ → Lis
       pub cause : CausedOn disk may_leave fault old new
       pub passes : DiskPasses disk may_leave old new
       pub others : KeepsOthers disk may_leave centre old new
-      pub stays : UnlessDisk fault (LogStays disk may_leave tears cluster old new centre)
-      pub over : (log : Log) → log.centre ≡ centre → IsLogOf disk cluster old log → StopsOver cluster log fault old new
+      pub stays : UnlessDiskFault fault (LogStays disk may_leave tears cluster old new centre)
+      pub over : (log : Log) → log.centre ≡ centre → IsServedLog disk cluster old log → StopsOver cluster log fault old new
 
 -- ---- several
 
@@ -154,7 +154,7 @@ module _ {D : Type 0} (disk : D → ℕ → Disk) (may_leave : D → ℕ → Lis
     pub later : (a : ℕ) → first + length held ≤ a → a ≤ 9 → IsUntouched disk may_leave old new a
     pub others : KeepsElsewhere disk may_leave (starts logs).sites old new
     -- the log of any centre has its facts and the boots that were appended, whatever a crash leaves
-    pub kept : (log : Log) → log.centre ≤ 9 → IsLogOf disk cluster old log → IsDurable disk may_leave old log
+    pub kept : (log : Log) → log.centre ≤ 9 → IsServedLog disk cluster old log → IsDurable disk may_leave old log
         → MayHaveFacts disk may_leave new log.centre (facts_after log.centre log.facts (starts logs).acts) []
     pub over : (before : List Log) → Follow first before → AreLogsOf disk cluster old before → length held ≤ length before → (more : List Log) × (before ≡ logs ++ more)
 

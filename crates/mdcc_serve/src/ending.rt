@@ -1,17 +1,17 @@
 //! The end of a server: what is pending after its last turn goes out.
 ghost use Rattle.std.specs.Prelude.{◌≡◌, ◌<◌, length, List, slice_index_or};
 ghost use Rattle.mdcc_config.specs.IsConfig.{IsConfig};
-ghost use Rattle.mdcc_runs.specs.Sites.{Site as ASite};
+ghost use Rattle.mdcc_def_server_runs.specs.Sites.{Site as ASite};
 ghost use Rattle.mdcc_serve.specs.Centres.{AllServed, Ascend, HaveEnded, HoldSites, IsServedAt, PersistsAt, places};
-ghost use Rattle.mdcc_site.specs.Moments.{outside};
-ghost use Rattle.mdcc_site.specs.SiteState.{HoldsSite};
-ghost use Rattle.mdcc_site.specs.declared.site.Site.{Site as HeldSite};
+ghost use Rattle.mdcc_serve_site.specs.Moments.{outside};
+ghost use Rattle.mdcc_serve_site.specs.SiteState.{HoldsSite};
+ghost use Rattle.mdcc_serve_site.specs.declared.site.Site.{Site as HeldSite};
 
 use mdcc_base::Sink;
 use mdcc_config::Config;
 use mdcc_disks::Disks;
 use mdcc_link::Link;
-use mdcc_site::{ServeFault, Site};
+use mdcc_serve_site::{ServeFault, Site};
 use std::alloc::Global;
 
 // What is pending at the centre at an index goes out.

@@ -9,8 +9,8 @@ mod starting;
 mod turns;
 
 pub use mdcc_config::Config;
+pub use mdcc_def_rules::BootFault;
 pub use mdcc_log::LogFault;
-pub use mdcc_rules::BootFault;
-pub use mdcc_site::ServeFault;
+pub use mdcc_serve_site::ServeFault;
 pub use serve::{serve_cluster, serve_node};
 pub use served::Served;

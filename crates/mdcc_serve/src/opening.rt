@@ -2,20 +2,20 @@
 ghost use Rattle.std.specs.List.{AllByRecursion};
 ghost use Rattle.std.specs.Prelude.{◌≡◌, ◌≤◌, ◌+◌, ◌∷◌, [], IfErr, IfOk, IsErrAnd, ℕ};
 ghost use Rattle.mdcc_config.specs.IsConfig.{IsConfig};
-ghost use Rattle.mdcc_runs.specs.Acts.{Act};
+ghost use Rattle.mdcc_def_server_runs.specs.Acts.{Act};
 ghost use Rattle.mdcc_serve.specs.Centres.{places};
 ghost use Rattle.mdcc_serve.specs.Openings.{Binds, FailsToOpen, HasOpened, Lines, binds_of, binds_of_all, boots_told};
 ghost use Rattle.mdcc_serve.specs.Refusals.{LacksNode, SaysOfLogs};
 ghost use Rattle.mdcc_serve.specs.Stays.{HasRefused, IsLogRefused, NeverServed};
-ghost use Rattle.mdcc_site.specs.Moments.{outside};
+ghost use Rattle.mdcc_serve_site.specs.Moments.{outside};
 
 use crate::starting::start_all;
 use mdcc_base::{Address, Centre, Sink};
 use mdcc_config::Config;
+use mdcc_def_server_runs::ServerLine;
 use mdcc_disks::Disks;
 use mdcc_link::Link;
-use mdcc_runs::ServerLine;
-use mdcc_site::{ServeFault, Site, print_line};
+use mdcc_serve_site::{ServeFault, Site, print_line};
 use std::alloc::Global;
 
 // Binds an endpoint.

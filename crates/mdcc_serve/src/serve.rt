@@ -4,21 +4,21 @@ ghost use Rattle.std.specs.Prelude.{◌≡◌, ◌≤◌, ◌<◌, ◌+◌, ◌^
 ghost use Rattle.mdcc_log_file.specs.Both.{RoseAtOne};
 ghost use Rattle.mdcc_base.specs.Causes.{Rose};
 ghost use Rattle.mdcc_config.specs.IsConfig.{IsConfig};
-ghost use Rattle.mdcc_endings.specs.Logs.{IsTold};
-ghost use Rattle.mdcc_runs.specs.Acts.{Act};
-ghost use Rattle.mdcc_runs.specs.Servers.{Log};
-ghost use Rattle.mdcc_runs.specs.Sites.{Site as ASite};
+ghost use Rattle.mdcc_command_endings.specs.Logs.{AreAreasTold};
+ghost use Rattle.mdcc_def_server_runs.specs.Acts.{Act};
+ghost use Rattle.mdcc_def_server_runs.specs.Servers.{Log};
+ghost use Rattle.mdcc_def_server_runs.specs.Sites.{Site as ASite};
 ghost use Rattle.mdcc_serve.specs.Centres.{AllServed, Ascend, HoldSites, all_seen, places};
 ghost use Rattle.mdcc_serve.specs.Ends.{AllEnd, SerialsFit};
 ghost use Rattle.mdcc_serve.specs.Others.{KeepsUnserved};
 ghost use Rattle.mdcc_serve.specs.Refusals.{AreTold, LacksNode, MayServe, SaysOfLogs};
-ghost use Rattle.mdcc_serve.specs.Serving.{AreLogsOf, IsLogOf, ServesOrBreaksOff};
+ghost use Rattle.mdcc_serve.specs.Serving.{AreLogsOf, IsServedLog, ServesOrBreaksOff};
 ghost use Rattle.mdcc_serve.specs.Starts.{Follow};
 ghost use Rattle.mdcc_serve.specs.Stays.{HasRefused, IsLogRefused, NeverServed};
 ghost use Rattle.mdcc_serve.specs.Totals.{counts_of, done_of, with_counts};
-ghost use Rattle.mdcc_site.specs.Moments.{Caused, KeepsOthers, outside};
-ghost use Rattle.mdcc_site.specs.SiteState.{PrintsOut};
-ghost use Rattle.mdcc_site.specs.declared.fault.ServeFault.{ServeFault as AServeFault};
+ghost use Rattle.mdcc_serve_site.specs.Moments.{Caused, KeepsOthers, outside};
+ghost use Rattle.mdcc_serve_site.specs.SiteState.{PrintsOut};
+ghost use Rattle.mdcc_serve_site.specs.declared.fault.ServeFault.{ServeFault as AServeFault};
 
 use crate::Served;
 use crate::ending::persist_all_then_send;
@@ -26,10 +26,10 @@ use crate::opening::open;
 use crate::turns::make_turns;
 use mdcc_base::{Centre, Sink};
 use mdcc_config::Config;
+use mdcc_def_server_runs::ServerLine;
 use mdcc_disks::Disks;
 use mdcc_link::Link;
-use mdcc_runs::ServerLine;
-use mdcc_site::{ServeFault, Site, print_line};
+use mdcc_serve_site::{ServeFault, Site, print_line};
 use std::alloc::Global;
 
 // The counts with those of one centre more.
@@ -161,7 +161,7 @@ pub fn serve_node<D: Disks, L: Link, O: Sink>(
 
     // Over a log that tells its bytes, what is appended, sent and printed is the run's for what the receives gave, all of it after
     // so many turns and else a prefix.
-    ensures serves { (log : Log) → log.centre ≡ centre → IsLogOf D.disk config.now.cluster disks.old log
+    ensures serves { (log : Log) → log.centre ≡ centre → IsServedLog D.disk config.now.cluster disks.old log
         → ServesOrBreaksOff D.disk D.may_leave D.tears L.calls L.lost O.held config.now (log ∷ []) turns result disks.old disks.new link.old link.new out.old out.new }
 
     // A log is refused just where no node boots from it, unless something else comes before.
@@ -170,7 +170,7 @@ pub fn serve_node<D: Disks, L: Link, O: Sink>(
 
     // A log that is refused stands as it was, perhaps with its own new boot, after a crash too where it was durable, and nothing was
     // bound, sent or printed.
-    ensures refused { IfErr result (λ fault. IsLogRefused fault → IsTold D.disk disks.old centre
+    ensures refused { IfErr result (λ fault. IsLogRefused fault → AreAreasTold D.disk disks.old centre
         → HasRefused D.disk D.may_leave D.tears L.calls L.lost config.now.cluster centre (centre + 1) disks.old disks.new link.old link.new out.old out.new) }
 
     // Where no node boots from its log nothing is bound, sent or printed, however it ends, and the log stands but where a disk fails.

@@ -3,23 +3,23 @@ ghost use Rattle.std.specs.Prelude.{◌≡◌, ◌≤◌, ◌+◌, ◌++◌, ◌
 ghost use Rattle.mdcc_config.specs.IsConfig.{IsConfig};
 ghost use Rattle.mdcc_serve.specs.Refusals.{AllBoot, BootsAt, SaysAt, StartEnds};
 ghost use Rattle.mdcc_serve.specs.Starts.{FailToStart, FailsToStart, HasStarted, HaveStarted, IsRunning, boot_fault_of, start_fault_of};
-ghost use Rattle.mdcc_serve.specs.Stays.{AllStay, OnFullBoot, UnlessDisk};
-ghost use Rattle.mdcc_site.specs.declared.fault.ServeFault.{ServeFault as AServeFault};
-ghost use Rattle.mdcc_site.specs.declared.site.Site.{Site as ASite};
+ghost use Rattle.mdcc_serve.specs.Stays.{AllStay, OnFullBoot, UnlessDiskFault};
+ghost use Rattle.mdcc_serve_site.specs.declared.fault.ServeFault.{ServeFault as AServeFault};
+ghost use Rattle.mdcc_serve_site.specs.declared.site.Site.{Site as ASite};
 
-use mdcc_admission::laws::boots_within_cells;
 use mdcc_base::{Centre, Plain};
-use mdcc_centre::{Running, StartFault};
 use mdcc_config::Config;
+use mdcc_def_rules::BootFault;
 use mdcc_disks::Disks;
 use mdcc_frag::Joiner;
 use mdcc_index::PoolFacts;
 use mdcc_log::current_is_read;
-use mdcc_outbox::{Clients, Sender};
-use mdcc_rules::BootFault;
-use mdcc_site::{ServeFault, Site, log_fault, nothing_pending};
-use mdcc_spelling::facts::{facts_have_one_spelling, facts_read_are_well_formed};
-use mdcc_steps::boots_give_nodes;
+use mdcc_node_boot::laws::boots_within_cells;
+use mdcc_node_log::{Running, StartFault};
+use mdcc_serve_outbox::{Clients, Sender};
+use mdcc_serve_site::{ServeFault, Site, log_fault, nothing_pending};
+use mdcc_theorem_encoding::facts::{facts_have_one_spelling, facts_read_are_well_formed};
+use mdcc_theorem_node_steps::boots_give_nodes;
 use std::alloc::Global;
 
 // A fault of a boot as a server's.
@@ -65,7 +65,7 @@ fn start_over_log<D: Disks>(
     current_is_read();
     let store = PoolFacts::new(alloc, config.cluster.cells)?;
     let cluster = config.cluster.copy();
-    match mdcc_centre::start(alloc, cluster, centre, store, disks, config.checkpoint) {
+    match mdcc_node_log::start(alloc, cluster, centre, store, disks, config.checkpoint) {
         Ok(running) => Ok(running),
         Err(fault) => Err(start_fault(centre, fault)),
     }
@@ -150,7 +150,7 @@ pub(crate) fn start_all<D: Disks>(
     ensures fails { IfErr result (λ fault. FailToStart D.disk D.may_leave config.now.checkpoint D.tears config.now.cluster first (last + 1 - first) fault disks.old disks.new) }
     ensures nodes { OnOk result (AllBoot D.disk config.now.cluster disks.old first (last + 1)) }
     ensures ends { IfErr result (StartEnds D.disk config.now.cluster disks.old first (last + 1)) }
-    ensures stay { IfErr result (λ fault. UnlessDisk fault (AllStay D.disk D.may_leave D.tears config.now.cluster disks.old disks.new first (last + 1))) }
+    ensures stay { IfErr result (λ fault. UnlessDiskFault fault (AllStay D.disk D.may_leave D.tears config.now.cluster disks.old disks.new first (last + 1))) }
     ensures full { IfErr result (OnFullBoot D.disk D.may_leave config.now.checkpoint config.now.cluster disks.old disks.new) }
 {
     let mut sites = Vec::new(alloc);

@@ -1,7 +1,7 @@
 //! What is printed of logs that are written byte by byte, as the formats have them.
 use mdcc_base::{MemorySink, MemorySource};
+use mdcc_command_dump::run_dump;
 use mdcc_disks::{Disks, MemoryDisks};
-use mdcc_dump::run_dump;
 use std::alloc::Global;
 use std::process::Abort;
 use std::test::Fail;

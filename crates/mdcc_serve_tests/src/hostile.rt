@@ -1,11 +1,11 @@
 //! Datagrams that are no message of the cluster.
 ghost use Rattle.std.specs.Prelude.{IfSome};
-ghost use Rattle.mdcc_wire.specs.Counts.{HasCounts};
+ghost use Rattle.mdcc_wire.specs.Counts.{HasMessageCounts};
 
 use crate::made::{ONE, put, put_bytes, serve_all, serve_first};
 use mdcc_base::{Centre, Key, MemorySink, TxId};
+use mdcc_def_messages::{Envelope, Message};
 use mdcc_link::MemoryLink;
-use mdcc_messages::{Envelope, Message};
 use mdcc_wire::encode;
 use std::alloc::Global;
 use std::test::Fail;
@@ -30,7 +30,7 @@ const EMPTY: &[u8] = &[1, 7, 0, 0, 0, 1, 0, 0, 0, 0, 0, 0, 0, 0, 0, 1, 0];
 
 // An Ask from 2 to 3 for 1.1.1 at key `b`, version 0.
 fn ask() -> Option<Envelope>
-    ensures { IfSome result (λ envelope. HasCounts envelope.message) }
+    ensures { IfSome result (λ envelope. HasMessageCounts envelope.message) }
 {
     Some(Envelope {
         from: 2,

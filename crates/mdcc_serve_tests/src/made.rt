@@ -2,14 +2,14 @@
 ghost use Rattle.std.specs.Prelude.{◌≡◌, ◌≤◌, ◌+◌, IfSome, ℕ};
 ghost use Rattle.mdcc_config.specs.IsConfig.{IsConfig};
 ghost use Rattle.mdcc_disks.specs.Memory.{disk_of};
-ghost use Rattle.mdcc_wire.specs.Counts.{HasCounts};
+ghost use Rattle.mdcc_wire.specs.Counts.{HasMessageCounts};
 
 use mdcc_base::{BoundedList, Centre, Key, MemorySink};
 use mdcc_config::{Config, read_config};
+use mdcc_def_messages::{Envelope, Message};
 use mdcc_disks::MemoryDisks;
 use mdcc_frag::{FragHead, split};
 use mdcc_link::MemoryLink;
-use mdcc_messages::{Envelope, Message};
 use mdcc_option::{Item, Part, Update};
 use mdcc_serve::{ServeFault, Served, serve_cluster, serve_node};
 use mdcc_wire::encode;
@@ -25,7 +25,7 @@ const SMALL: &[u8] =
 
 /// A begin of the client of centre 1 that inserts `a` with value 10.
 pub(crate) fn begin(serial: u32) -> Option<Envelope>
-    ensures { IfSome result (λ envelope. HasCounts envelope.message) }
+    ensures { IfSome result (λ envelope. HasMessageCounts envelope.message) }
 {
     let mut values = BoundedList::new();
     values.push(10);
@@ -76,7 +76,7 @@ pub(crate) fn put(
     serial: u32,
     envelope: &Envelope,
 ) -> bool
-    requires { HasCounts envelope.now.message }
+    requires { HasMessageCounts envelope.now.message }
 {
     let mut bytes = Vec::new(alloc);
     if encode(envelope, &mut bytes).is_err() {

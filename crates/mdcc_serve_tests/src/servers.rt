@@ -1,12 +1,12 @@
 //! One answer to a client, from its sender to the client's end.
 use mdcc_base::{Centre, MemorySink, TxId};
 use mdcc_config::read_config;
+use mdcc_def_messages::{ClientAnswer, Message};
+use mdcc_def_server_runs::ServerLine;
 use mdcc_frag::Joiner;
-use mdcc_inbox::{Found, take_datagram};
 use mdcc_link::MemoryLink;
-use mdcc_messages::{ClientAnswer, Message};
-use mdcc_outbox::{Clients, Outgoing, Sender, answer_to, print};
-use mdcc_runs::ServerLine;
+use mdcc_serve_inbox::{Found, take_datagram};
+use mdcc_serve_outbox::{Clients, Outgoing, Sender, answer_to, print};
 use mdcc_wire::empty_envelope;
 use std::alloc::Global;
 use std::test::Fail;

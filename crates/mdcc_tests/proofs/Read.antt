@@ -1,10 +1,10 @@
 -- Facts that are read from few bytes are short.
 use Rattle.std.proofs.Common.{◌≡◌, ℕ, ◌<◌, ◌≤◌, ◌^◌, List, [], ◌∷◌, Ok, ap, arith, get_or, length, suc}
-use Rattle.mdcc_messages.specs.Lengths.{fact_length}
-use Rattle.mdcc_messages.specs.Reading.{fact_of}
-use Rattle.mdcc_messages.specs.Spelling.{fact_bytes}
-use Rattle.mdcc_messages.specs.declared.facts.Fact.{Fact}
-use Rattle.mdcc_spelling.specs.Laws.{AreBytes, FactsHaveOneSpelling}
+use Rattle.mdcc_def_messages.specs.Lengths.{fact_length}
+use Rattle.mdcc_def_messages.specs.Reading.{fact_of}
+use Rattle.mdcc_def_messages.specs.Spelling.{fact_bytes}
+use Rattle.mdcc_def_messages.specs.declared.facts.Fact.{Fact}
+use Rattle.mdcc_theorem_encoding.specs.Laws.{AreBytes, FactsHaveOneSpelling}
 
 pub each-byte : (bytes : List ℕ) → ((i : ℕ) → get_or bytes i 0 < 2 ^ 8) → AreBytes bytes
 each-byte [] h = tt

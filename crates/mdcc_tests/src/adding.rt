@@ -1,24 +1,24 @@
 //! Adding facts to a store where nothing else keeps them from being said twice.
 ghost use Rattle.mdcc_facts.specs.Adding.{MayBeAdded};
-ghost use Rattle.mdcc_protocol.specs.Facts.{votes_of};
-ghost use Rattle.mdcc_messages.specs.declared.facts.Fact.{Fact as AFact};
+ghost use Rattle.mdcc_def_protocol.specs.Facts.{votes_of};
+ghost use Rattle.mdcc_def_messages.specs.declared.facts.Fact.{Fact as AFact};
 ghost use Rattle.mdcc_struct.specs.Maps.{value_of};
 ghost use Rattle.std.specs.List.{list_any};
 ghost use Rattle.mdcc_journal.specs.Counts.{HasCounts};
-ghost use Rattle.mdcc_messages.specs.Lengths.{fact_length};
-ghost use Rattle.mdcc_messages.specs.Spelling.{fact_bytes};
-ghost use Rattle.mdcc_messages.specs.WellFormed.{IsWellFormedFact};
-ghost use Rattle.mdcc_spelling.specs.Laws.{AreBytes};
+ghost use Rattle.mdcc_def_messages.specs.Lengths.{fact_length};
+ghost use Rattle.mdcc_def_messages.specs.Spelling.{fact_bytes};
+ghost use Rattle.mdcc_def_messages.specs.WellFormed.{IsWellFormedFact};
+ghost use Rattle.mdcc_theorem_encoding.specs.Laws.{AreBytes};
 ghost use Rattle.std.specs.Prelude.{◌≡◌, ◌≤◌, ◌∷◌, IfSome, IsTrue, List, OnOk, false, is_some};
 ghost use Rattle.std.specs.Bool.{OnTrue};
 
 use mdcc_base::{Ballot, Key};
 use mdcc_facts::{Fact, FactStore, StoreFault};
+use mdcc_facts_listed::ListFacts;
 use mdcc_journal::{decode_fact, encode_fact};
-use mdcc_list_facts::ListFacts;
-use mdcc_spelling::facts::{facts_have_one_spelling, facts_read_are_well_formed};
-use mdcc_spelling::sizes::lengths_are_exact;
 use mdcc_struct::Options;
+use mdcc_theorem_encoding::facts::{facts_have_one_spelling, facts_read_are_well_formed};
+use mdcc_theorem_encoding::sizes::lengths_are_exact;
 use std::alloc::Global;
 
 // Whether no mark of a structure was voted in an instance at a ballot, and none is of a finished

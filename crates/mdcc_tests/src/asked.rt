@@ -4,7 +4,7 @@ use crate::adding::put;
 use crate::facts::{LED, committed, decrease, key, led, tx};
 use mdcc_base::Ballot;
 use mdcc_facts::{Fact, FactStore};
-use mdcc_list_facts::ListFacts;
+use mdcc_facts_listed::ListFacts;
 use mdcc_option::{Mark, Outcome};
 use mdcc_struct::Options;
 use std::alloc::Global;

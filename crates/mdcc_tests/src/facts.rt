@@ -2,10 +2,10 @@
 //! put in by hand.
 use crate::adding::put;
 use mdcc_base::{Ballot, BoundedList, Centre, Key, Plain, TxId};
+use mdcc_def_protocol::Load;
 use mdcc_facts::{Fact, FactStore};
-use mdcc_list_facts::ListFacts;
+use mdcc_facts_listed::ListFacts;
 use mdcc_option::{Choice, Delta, Item, Mark, Outcome, Seen, Update};
-use mdcc_protocol::Load;
 use mdcc_struct::Options;
 use std::alloc::Global;
 use std::process::Abort;

@@ -8,11 +8,11 @@ use Rattle.mdcc_struct.proofs.Order.{tx_eq-refl, tx_lt-apart}
 use Rattle.mdcc_struct.proofs.Ordered.{IsBelow, ascending-below, ascending-tail}
 use Rattle.mdcc_struct.proofs.Walks.{ascending-union}
 use Rattle.mdcc_struct.specs.Maps.{TxMap, are_ascending, txs_of, value_of}
-use Rattle.mdcc_protocol.specs.Facts.{current_of, deltas_at, deltas_from, executed_of}
-use Rattle.mdcc_protocol.specs.Marks.{Amounts}
-use Rattle.mdcc_protocol.specs.Stores.{delta_of}
-use Rattle.mdcc_messages.specs.declared.facts.Fact.{Fact}
-use Rattle.mdcc_visible.specs.Deltas.{delta_in, deltas_in}
+use Rattle.mdcc_def_protocol.specs.Facts.{current_of, deltas_at, deltas_from, executed_of}
+use Rattle.mdcc_def_protocol.specs.Marks.{Amounts}
+use Rattle.mdcc_def_protocol.specs.Stores.{delta_of}
+use Rattle.mdcc_def_messages.specs.declared.facts.Fact.{Fact}
+use Rattle.mdcc_visible.specs.Deltas.{delta_in, deltas_of_map}
 
 ascending-deltas : (facts : List Fact) (key : Key) (version : ℕ) → are_ascending (deltas_at facts key version) ≡ true
 ascending-deltas [] key version = refl
@@ -29,7 +29,7 @@ below-at tx (e ∷ es) (suc i) d h k = below-at tx es i d h.1 (omega arith)
 
 -- the delta of the transaction at a place is the next one
 pub next_delta : (m : TxMap Amounts) (i : ℕ) (tx d : TxId) → are_ascending m ≡ true → i < length (txs_of m) → tx ≡ get_or (txs_of m) i d
-    → take (i + 1) (deltas_in m) ≡ take i (deltas_in m) ++ option_to_list (option_map (λ amounts. delta_in (tx, amounts)) (value_of m tx))
+    → take (i + 1) (deltas_of_map m) ≡ take i (deltas_of_map m) ++ option_to_list (option_map (λ amounts. delta_in (tx, amounts)) (value_of m tx))
 next_delta [] i tx d h k e = absurd (omega arith)
 next_delta (x ∷ xs) zero tx d h k e = rw (e, tx_eq-refl x.0) refl
 next_delta (x ∷ xs) (suc i) tx d h k e =
@@ -40,7 +40,7 @@ next_delta (x ∷ xs) (suc i) tx d h k e =
 
 -- the same, as a store answers them
 pub next_executed : (facts : List Fact) (key : Key) (seen : List TxId) (i : ℕ) (tx d : TxId) → seen ≡ txs_of (executed_of facts key) → i < length seen → tx ≡ get_or seen i d
-    → take (i + 1) (deltas_in (executed_of facts key)) ≡ take i (deltas_in (executed_of facts key)) ++ option_to_list (delta_of facts key tx)
+    → take (i + 1) (deltas_of_map (executed_of facts key)) ≡ take i (deltas_of_map (executed_of facts key)) ++ option_to_list (delta_of facts key tx)
 next_executed facts key seen i tx d same within is =
     next_delta (executed_of facts key) i tx d (ascending-executed facts key) (rw (← same) within) (is ∙ rw same refl)
 

@@ -6,14 +6,14 @@ use Rattle.mdcc_option.specs.OneCopy.{read_value, value_after}
 use Rattle.mdcc_option.specs.declared.items.Delta.{Delta}
 use Rattle.mdcc_option.specs.declared.items.Item.{Item}
 use Rattle.mdcc_struct.specs.Maps.{TxMap}
-use Rattle.mdcc_protocol.specs.Marks.{Amounts}
+use Rattle.mdcc_def_protocol.specs.Marks.{Amounts}
 
 abbrev pub delta_in : TxId × Amounts → Delta
 delta_in e = record { tx = e.0; amounts = e.1 }
 
 -- the deltas of a map, in its order
-abbrev pub deltas_in : TxMap Amounts → List Delta
-deltas_in m = map delta_in m
+abbrev pub deltas_of_map : TxMap Amounts → List Delta
+deltas_of_map m = map delta_in m
 
 -- the value of the attribute at a place, as it is read
 abbrev pub value_shown : List Delta → ℕ × ℤ → ℤ

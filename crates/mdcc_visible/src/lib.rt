@@ -6,8 +6,8 @@ pub mod outcomes;
 pub mod reading;
 pub mod sync;
 
-pub use mdcc_messages::Fact;
-pub use mdcc_protocol::{Give, Reading};
+pub use mdcc_def_messages::Fact;
+pub use mdcc_def_protocol::{Give, Reading};
 pub use outcomes::on_outcome;
 pub use reading::{read, rebase_due};
 pub use sync::{on_sync_ask, on_sync_give};

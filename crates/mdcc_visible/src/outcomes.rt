@@ -1,11 +1,11 @@
 //! Outcomes that are heard.
 ghost use Rattle.std.specs.Prelude.{◌≡◌, List};
-ghost use Rattle.mdcc_messages.specs.declared.facts.Fact.{Fact as AFact};
-ghost use Rattle.mdcc_protocol.specs.Visible.{on_outcome};
+ghost use Rattle.mdcc_def_messages.specs.declared.facts.Fact.{Fact as AFact};
+ghost use Rattle.mdcc_def_protocol.specs.Visible.{on_outcome};
 
 use mdcc_base::{Plain, TxId};
+use mdcc_def_messages::Fact;
 use mdcc_facts::FactStore;
-use mdcc_messages::Fact;
 use mdcc_option::Outcome;
 
 /// The fact of an outcome; there is none where the transaction's was heard before, or all centres

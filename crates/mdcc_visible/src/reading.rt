@@ -1,15 +1,15 @@
 //! What a read shows of a key.
 ghost use Rattle.std.specs.Prelude.{◌≡◌, ◌*◌, ◌^◌, ◌<◌, ◌≤◌, ◌≤ℤ◌, List, length, neg_ℤ, option_map, pos};
-ghost use Rattle.mdcc_messages.specs.declared.facts.Fact.{Fact as AFact};
-ghost use Rattle.mdcc_protocol.specs.Facts.{base_of, executed_of, token_of};
-ghost use Rattle.mdcc_protocol.specs.Visible.{item_read, read, rebase_due};
+ghost use Rattle.mdcc_def_messages.specs.declared.facts.Fact.{Fact as AFact};
+ghost use Rattle.mdcc_def_protocol.specs.Facts.{base_of, executed_of, token_of};
+ghost use Rattle.mdcc_def_protocol.specs.Visible.{item_read, read, rebase_due};
 ghost use Rattle.mdcc_visible.specs.Deltas.{item_shown, value_shown};
 
 use crate::deltas::executed_deltas;
 use mdcc_base::{BoundedList, Key, Plain};
+use mdcc_def_protocol::Reading;
 use mdcc_facts::FactStore;
 use mdcc_option::{Delta, Item, Token, read_value, value_after};
-use mdcc_protocol::Reading;
 
 // The value of the attribute at a place, as it is read.
 fn value_shown(deltas: &[Delta], place: usize, base: i64) -> i64

@@ -2,18 +2,18 @@
 ghost use Rattle.std.specs.Prelude.{◌≡◌, List, Ok, is_some, not, true};
 ghost use Rattle.std.specs.List.{list_any};
 ghost use Rattle.mdcc_base.specs.Unless.{GivesUnless};
-ghost use Rattle.mdcc_messages.specs.declared.facts.Fact.{Fact as AFact};
-ghost use Rattle.mdcc_protocol.specs.Facts.{executed_of};
-ghost use Rattle.mdcc_protocol.specs.News.{is_news};
-ghost use Rattle.mdcc_protocol.specs.Visible.{on_sync_ask, on_sync_give};
+ghost use Rattle.mdcc_def_messages.specs.declared.facts.Fact.{Fact as AFact};
+ghost use Rattle.mdcc_def_protocol.specs.Facts.{executed_of};
+ghost use Rattle.mdcc_def_protocol.specs.News.{is_news};
+ghost use Rattle.mdcc_def_protocol.specs.Visible.{on_sync_ask, on_sync_give};
 ghost use Rattle.mdcc_struct.specs.Maps.{value_of};
 
 use crate::deltas::copied_deltas;
 use mdcc_base::{Key, Memory, Plain};
+use mdcc_def_messages::Fact;
+use mdcc_def_protocol::Give;
 use mdcc_facts::FactStore;
-use mdcc_messages::Fact;
 use mdcc_option::Delta;
-use mdcc_protocol::Give;
 use std::alloc::Global;
 
 /// The version, the base and the executed deltas of a key; there is nothing at version 0. It adds no

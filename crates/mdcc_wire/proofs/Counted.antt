@@ -1,11 +1,11 @@
 -- The lists of a well-formed message are no longer than their counts can say.
 use Rattle.std.proofs.Common.{arith}
-use Rattle.mdcc_messages.specs.declared.messages.Message.{Message}
-use Rattle.mdcc_messages.specs.declared.messages.Message.TheVariants as messages
-use Rattle.mdcc_messages.specs.WellFormed.{IsWellFormedMessage}
-use Rattle.mdcc_wire.specs.Counts.{HasCounts}
+use Rattle.mdcc_def_messages.specs.declared.messages.Message.{Message}
+use Rattle.mdcc_def_messages.specs.declared.messages.Message.TheVariants as messages
+use Rattle.mdcc_def_messages.specs.WellFormed.{IsWellFormedMessage}
+use Rattle.mdcc_wire.specs.Counts.{HasMessageCounts}
 
-pub has_counts : (message : Message) → IsWellFormedMessage message → HasCounts message
+pub has_counts : (message : Message) → IsWellFormedMessage message → HasMessageCounts message
 has_counts (messages.Propose choice) w = tt
 has_counts (messages.Voted key version ballot tx mark) w = tt
 has_counts (messages.Escalate key version tx cause) w = tt

@@ -3,9 +3,9 @@ use Rattle.std.proofs.Common.{◌≡◌, ℕ, zero, suc, ◌-◌, ◌<◌, List,
 use Rattle.mdcc_base.specs.declared.identifiers.TxId.{TxId}
 use Rattle.mdcc_option.specs.declared.choices.Mark.{Mark}
 use Rattle.mdcc_struct.specs.Options.{Marks}
-use Rattle.mdcc_messages.specs.declared.wire.WireFault.{WireFault}
-use Rattle.mdcc_messages.specs.ReadingSteps.{◌>>=◌, u32_at, elements_at}
-use Rattle.mdcc_messages.specs.ReadingParts.{entry_behind, options_at}
+use Rattle.mdcc_def_messages.specs.declared.wire.WireFault.{WireFault}
+use Rattle.mdcc_def_messages.specs.ReadingSteps.{◌>>=◌, u32_at, elements_at}
+use Rattle.mdcc_def_messages.specs.ReadingParts.{entry_behind, options_at}
 use Rattle.mdcc_wire.specs.Marks.{marks_from, options_marks}
 
 abbrev done : {X : Type 0} → X → Result X WireFault

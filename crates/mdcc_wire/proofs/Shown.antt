@@ -3,21 +3,21 @@ use Rattle.std.proofs.Common.{◌≡◌, ℕ, ◌+◌, ◌≤◌, ◌==◌, Bool
 use Rattle.std.specs.Prelude.{nat_lt, nat_le, ◌-◌, IfOk, IsOk}
 use Rattle.std.specs.Int.{IsInRange, is_in_range}
 use Rattle.std.proofs.lemmas.Bool.{and_parts, leb-true, eqb-true, eqb-false}
-use Rattle.mdcc_messages.specs.declared.messages.Envelope.{Envelope}
-use Rattle.mdcc_messages.specs.declared.messages.Message.{Message}
-use Rattle.mdcc_messages.specs.declared.messages.Message.TheVariants as messages
-use Rattle.mdcc_messages.specs.declared.wire.WireFault.{WireFault}
-use Rattle.mdcc_messages.specs.declared.wire.WireFault.TheVariants.{Truncated, Trailing, Kind}
-use Rattle.mdcc_messages.specs.ReadingSteps.{◌>>=◌, u8_at, u32_at, u64_at, checked, unless_fault, list_at}
+use Rattle.mdcc_def_messages.specs.declared.messages.Envelope.{Envelope}
+use Rattle.mdcc_def_messages.specs.declared.messages.Message.{Message}
+use Rattle.mdcc_def_messages.specs.declared.messages.Message.TheVariants as messages
+use Rattle.mdcc_def_messages.specs.declared.wire.WireFault.{WireFault}
+use Rattle.mdcc_def_messages.specs.declared.wire.WireFault.TheVariants.{Truncated, Trailing, Kind}
+use Rattle.mdcc_def_messages.specs.ReadingSteps.{◌>>=◌, u8_at, u32_at, u64_at, checked, unless_fault, list_at}
 use Rattle.mdcc_base.specs.declared.identifiers.Ballot.{Ballot}
 use Rattle.mdcc_struct.specs.Options.{Marks}
-use Rattle.mdcc_messages.specs.ReadingParts.{key_at, tx_at, ballot_at, classic_at, part_behind, choice_at, entry_at, options_at, cause_at}
-use Rattle.mdcc_messages.specs.ReadingAnswers.{answer_at}
-use Rattle.mdcc_messages.specs.Reading.{instance_at, at_least, heard_at, given_at, known, known_in, endpoint, propose_at, voted_at, escalate_at, lead_at, prepare_at, promise_at, accept_at, refused_at, ended_at, ask_at, sync_ask_at, sync_give_at, client_read_at, client_begin_at, client_answer_at, numbers_at, mark_at, finished_at, body_at, whole, view_of}
-use Rattle.mdcc_messages.specs.Spelling.{kind_of}
+use Rattle.mdcc_def_messages.specs.ReadingParts.{key_at, tx_at, ballot_at, classic_at, part_behind, choice_at, mark_entry_at, options_at, cause_at}
+use Rattle.mdcc_def_messages.specs.ReadingAnswers.{answer_at}
+use Rattle.mdcc_def_messages.specs.Reading.{instance_at, at_least, heard_at, sync_given_at, known, known_in, endpoint, propose_at, voted_at, escalate_at, lead_at, prepare_at, promise_at, accept_at, refused_message_at, ended_at, ask_at, sync_ask_at, sync_give_at, client_read_at, client_begin_at, client_answer_at, numbers_at, mark_at, finished_at, body_at, whole, view_of}
+use Rattle.mdcc_def_messages.specs.Spelling.{kind_of}
 use Rattle.mdcc_parts.specs.Reads.{end_of}
 use Rattle.mdcc_wire.specs.Marks.{votes_place, options_place, promise_marks, accept_marks, marks_by}
-use Rattle.mdcc_wire.specs.Views.{viewed, passed, choice_in, marks_in, kind_or_none, choice_or_none, choice_by}
+use Rattle.mdcc_wire.specs.Views.{viewed, passed, message_choice, message_marks, kind_or_none, choice_or_none, choice_by}
 use Rattle.mdcc_wire.proofs.MarksLeft.{options_all}
 
 abbrev done : {X : Type 0} → X → Result X WireFault
@@ -154,7 +154,7 @@ accept_marks_are bytes at place v e f = rw e (options_all bytes place.1 place.0.
 -- what is found of a message where its kind says
 abbrev Shows : ℕ → List ℕ → ℕ → Result (Message × ℕ) WireFault → Type 0
 Shows kind bytes at read =
-    IfOk read (λ x. (kind_of x.0 ≡ kind) × (choice_by kind bytes at ≡ choice_in x.0) × (marks_by kind bytes at ≡ marks_in x.0))
+    IfOk read (λ x. (kind_of x.0 ≡ kind) × (choice_by kind bytes at ≡ message_choice x.0) × (marks_by kind bytes at ≡ message_marks x.0))
 
 module _ (bytes : List ℕ) (at : ℕ) where
   then : {A : Type 0} (kind : ℕ) (r : Result A WireFault) (f : A → Result (Message × ℕ) WireFault) → ((x : A) → Shows kind bytes at (f x)) → Shows kind bytes at (r >>= f)
@@ -171,20 +171,20 @@ module _ (bytes : List ℕ) (at : ℕ) where
       turned false e = let other = eqb-false kind n e in k (omega (arith, least, other))
 
   by_value : (kind : ℕ) (r : Result (Message × ℕ) WireFault)
-      → ((x : Message × ℕ) → r ≡ Ok x → (kind_of x.0 ≡ kind) × (choice_by kind bytes at ≡ choice_in x.0) × (marks_by kind bytes at ≡ marks_in x.0)) → Shows kind bytes at r
+      → ((x : Message × ℕ) → r ≡ Ok x → (kind_of x.0 ≡ kind) × (choice_by kind bytes at ≡ message_choice x.0) × (marks_by kind bytes at ≡ message_marks x.0)) → Shows kind bytes at r
   by_value kind (Ok x) h = h x refl
   by_value kind (Err fault) h = tt
 
   propose_shows : Shows 1 bytes at (propose_at bytes at)
   propose_shows = by_value 1 (propose_at bytes at) (λ x e.
       let a = bind_ok (choice_at bytes at) (λ c. done (messages.Propose c.0, c.1)) x e in
-      subst (λ (y : Message × ℕ). (kind_of y.0 ≡ 1) × (choice_by 1 bytes at ≡ choice_in y.0) × (marks_by 1 bytes at ≡ marks_in y.0))
+      subst (λ (y : Message × ℕ). (kind_of y.0 ≡ 1) × (choice_by 1 bytes at ≡ message_choice y.0) × (marks_by 1 bytes at ≡ message_marks y.0))
       (ok_is (messages.Propose a.0.0, a.0.1) x a.2) (refl, ap choice_or_none a.1, refl))
 
   lead_shows : Shows 4 bytes at (lead_at bytes at)
   lead_shows = by_value 4 (lead_at bytes at) (λ x e.
       let a = bind_ok (choice_at bytes at) (λ c. done (messages.Lead c.0, c.1)) x e in
-      subst (λ (y : Message × ℕ). (kind_of y.0 ≡ 4) × (choice_by 4 bytes at ≡ choice_in y.0) × (marks_by 4 bytes at ≡ marks_in y.0))
+      subst (λ (y : Message × ℕ). (kind_of y.0 ≡ 4) × (choice_by 4 bytes at ≡ message_choice y.0) × (marks_by 4 bytes at ≡ message_marks y.0))
       (ok_is (messages.Lead a.0.0, a.0.1) x a.2) (refl, ap choice_or_none a.1, refl))
 
   -- the votes of a promise stand behind its ballots
@@ -197,7 +197,7 @@ module _ (bytes : List ℕ) (at : ℕ) where
       let v = bind_ok (options_at bytes d.0.1 a.0.0.0 a.0.0.1) (λ v. done (messages.Promise a.0.0.0 a.0.0.1 b.0.0 c.0.0 d.0.0 v.0, v.1)) x d.2 in
       let place = votes_place_is bytes at a.0 b.0 c.0 d.0 a.1 b.1 c.1 d.1 in
       let marks = promise_marks_are bytes at (a.0.0, d.0.1) v.0 place v.1 in
-      subst (λ (y : Message × ℕ). (kind_of y.0 ≡ 6) × (choice_by 6 bytes at ≡ choice_in y.0) × (marks_by 6 bytes at ≡ marks_in y.0))
+      subst (λ (y : Message × ℕ). (kind_of y.0 ≡ 6) × (choice_by 6 bytes at ≡ message_choice y.0) × (marks_by 6 bytes at ≡ message_marks y.0))
       (ok_is (messages.Promise a.0.0.0 a.0.0.1 b.0.0 c.0.0 d.0.0 v.0.0, v.0.1) x v.2) (refl, refl, marks))
 
   -- the structure of an accept stands behind its ballot
@@ -208,11 +208,11 @@ module _ (bytes : List ℕ) (at : ℕ) where
       let v = bind_ok (options_at bytes b.0.1 a.0.0.0 a.0.0.1) (λ v. done (messages.Accept a.0.0.0 a.0.0.1 b.0.0 v.0, v.1)) x b.2 in
       let place = options_place_is bytes at a.0 b.0 a.1 b.1 in
       let marks = accept_marks_are bytes at (a.0.0, b.0.1) v.0 place v.1 in
-      subst (λ (y : Message × ℕ). (kind_of y.0 ≡ 7) × (choice_by 7 bytes at ≡ choice_in y.0) × (marks_by 7 bytes at ≡ marks_in y.0))
+      subst (λ (y : Message × ℕ). (kind_of y.0 ≡ 7) × (choice_by 7 bytes at ≡ message_choice y.0) × (marks_by 7 bytes at ≡ message_marks y.0))
       (ok_is (messages.Accept a.0.0.0 a.0.0.1 b.0.0 v.0.0, v.0.1) x v.2) (refl, refl, marks))
 
   voted_shows : Shows 2 bytes at (voted_at bytes at)
-  voted_shows = then 2 (instance_at bytes at) (λ place. ballot_at bytes place.1 >>= λ ballot. entry_at bytes ballot.1 place.0.0 place.0.1 >>= λ entry. done (messages.Voted place.0.0 place.0.1 ballot.0 entry.0.0 entry.0.1, entry.1)) (λ place. then 2 (ballot_at bytes place.1) (λ ballot. entry_at bytes ballot.1 place.0.0 place.0.1 >>= λ entry. done (messages.Voted place.0.0 place.0.1 ballot.0 entry.0.0 entry.0.1, entry.1)) (λ ballot. then 2 (entry_at bytes ballot.1 place.0.0 place.0.1) (λ entry. done (messages.Voted place.0.0 place.0.1 ballot.0 entry.0.0 entry.0.1, entry.1)) (λ entry. (refl, refl, refl))))
+  voted_shows = then 2 (instance_at bytes at) (λ place. ballot_at bytes place.1 >>= λ ballot. mark_entry_at bytes ballot.1 place.0.0 place.0.1 >>= λ entry. done (messages.Voted place.0.0 place.0.1 ballot.0 entry.0.0 entry.0.1, entry.1)) (λ place. then 2 (ballot_at bytes place.1) (λ ballot. mark_entry_at bytes ballot.1 place.0.0 place.0.1 >>= λ entry. done (messages.Voted place.0.0 place.0.1 ballot.0 entry.0.0 entry.0.1, entry.1)) (λ ballot. then 2 (mark_entry_at bytes ballot.1 place.0.0 place.0.1) (λ entry. done (messages.Voted place.0.0 place.0.1 ballot.0 entry.0.0 entry.0.1, entry.1)) (λ entry. (refl, refl, refl))))
 
   escalate_shows : Shows 3 bytes at (escalate_at bytes at)
   escalate_shows = then 3 (instance_at bytes at) (λ place. tx_at bytes place.1 >>= λ tx. cause_at bytes tx.1 >>= λ cause. done (messages.Escalate place.0.0 place.0.1 tx.0 cause.0, cause.1)) (λ place. then 3 (tx_at bytes place.1) (λ tx. cause_at bytes tx.1 >>= λ cause. done (messages.Escalate place.0.0 place.0.1 tx.0 cause.0, cause.1)) (λ tx. then 3 (cause_at bytes tx.1) (λ cause. done (messages.Escalate place.0.0 place.0.1 tx.0 cause.0, cause.1)) (λ cause. (refl, refl, refl))))
@@ -220,7 +220,7 @@ module _ (bytes : List ℕ) (at : ℕ) where
   prepare_shows : Shows 5 bytes at (prepare_at bytes at)
   prepare_shows = then 5 (instance_at bytes at) (λ place. checked (at_least place.1 place.0.1) (u64_at bytes place.1) >>= λ through. classic_at bytes through.1 >>= λ ballot. done (messages.Prepare place.0.0 place.0.1 through.0 ballot.0, ballot.1)) (λ place. then 5 (checked (at_least place.1 place.0.1) (u64_at bytes place.1)) (λ through. classic_at bytes through.1 >>= λ ballot. done (messages.Prepare place.0.0 place.0.1 through.0 ballot.0, ballot.1)) (λ through. then 5 (classic_at bytes through.1) (λ ballot. done (messages.Prepare place.0.0 place.0.1 through.0 ballot.0, ballot.1)) (λ ballot. (refl, refl, refl))))
 
-  refused_shows : Shows 8 bytes at (refused_at bytes at)
+  refused_shows : Shows 8 bytes at (refused_message_at bytes at)
   refused_shows = then 8 (instance_at bytes at) (λ place. classic_at bytes place.1 >>= λ ballot. ballot_at bytes ballot.1 >>= λ promised. done (messages.Refused place.0.0 place.0.1 ballot.0 promised.0, promised.1)) (λ place. then 8 (classic_at bytes place.1) (λ ballot. ballot_at bytes ballot.1 >>= λ promised. done (messages.Refused place.0.0 place.0.1 ballot.0 promised.0, promised.1)) (λ ballot. then 8 (ballot_at bytes ballot.1) (λ promised. done (messages.Refused place.0.0 place.0.1 ballot.0 promised.0, promised.1)) (λ promised. (refl, refl, refl))))
 
   ended_shows : Shows 9 bytes at (ended_at bytes at)
@@ -233,7 +233,7 @@ module _ (bytes : List ℕ) (at : ℕ) where
   sync_ask_shows = then 11 (key_at bytes at) (λ key. done (messages.SyncAsk key.0, key.1)) (λ key. (refl, refl, refl))
 
   sync_give_shows : Shows 12 bytes at (sync_give_at bytes at)
-  sync_give_shows = then 12 (given_at bytes at) (λ given. done (messages.SyncGive given.0.0 given.0.1 given.0.2 given.0.3, given.1)) (λ given. (refl, refl, refl))
+  sync_give_shows = then 12 (sync_given_at bytes at) (λ given. done (messages.SyncGive given.0.0 given.0.1 given.0.2 given.0.3, given.1)) (λ given. (refl, refl, refl))
 
   client_read_shows : Shows 13 bytes at (client_read_at bytes at)
   client_read_shows = then 13 (u32_at bytes at) (λ serial. key_at bytes serial.1 >>= λ key. done (messages.ClientRead serial.0 key.0, key.1)) (λ serial. then 13 (key_at bytes serial.1) (λ key. done (messages.ClientRead serial.0 key.0, key.1)) (λ key. (refl, refl, refl)))
@@ -255,14 +255,14 @@ module _ (bytes : List ℕ) (at : ℕ) where
 
   body_shows : (kind : ℕ) → IsInRange 1 17 kind → Shows kind bytes at (body_at kind bytes at)
   body_shows kind range =
-      choose kind 1 (propose_at bytes at) (cond (kind == 2) (voted_at bytes at) (cond (kind == 3) (escalate_at bytes at) (cond (kind == 4) (lead_at bytes at) (cond (kind == 5) (prepare_at bytes at) (cond (kind == 6) (promise_at bytes at) (cond (kind == 7) (accept_at bytes at) (cond (kind == 8) (refused_at bytes at) (cond (kind == 9) (ended_at bytes at) (cond (kind == 10) (ask_at bytes at) (cond (kind == 11) (sync_ask_at bytes at) (cond (kind == 12) (sync_give_at bytes at) (cond (kind == 13) (client_read_at bytes at) (cond (kind == 14) (client_begin_at bytes at) (bodies_from_15 kind)))))))))))))) range.0 propose_shows (λ n1.
-      choose kind 2 (voted_at bytes at) (cond (kind == 3) (escalate_at bytes at) (cond (kind == 4) (lead_at bytes at) (cond (kind == 5) (prepare_at bytes at) (cond (kind == 6) (promise_at bytes at) (cond (kind == 7) (accept_at bytes at) (cond (kind == 8) (refused_at bytes at) (cond (kind == 9) (ended_at bytes at) (cond (kind == 10) (ask_at bytes at) (cond (kind == 11) (sync_ask_at bytes at) (cond (kind == 12) (sync_give_at bytes at) (cond (kind == 13) (client_read_at bytes at) (cond (kind == 14) (client_begin_at bytes at) (bodies_from_15 kind))))))))))))) n1 voted_shows (λ n2.
-      choose kind 3 (escalate_at bytes at) (cond (kind == 4) (lead_at bytes at) (cond (kind == 5) (prepare_at bytes at) (cond (kind == 6) (promise_at bytes at) (cond (kind == 7) (accept_at bytes at) (cond (kind == 8) (refused_at bytes at) (cond (kind == 9) (ended_at bytes at) (cond (kind == 10) (ask_at bytes at) (cond (kind == 11) (sync_ask_at bytes at) (cond (kind == 12) (sync_give_at bytes at) (cond (kind == 13) (client_read_at bytes at) (cond (kind == 14) (client_begin_at bytes at) (bodies_from_15 kind)))))))))))) n2 escalate_shows (λ n3.
-      choose kind 4 (lead_at bytes at) (cond (kind == 5) (prepare_at bytes at) (cond (kind == 6) (promise_at bytes at) (cond (kind == 7) (accept_at bytes at) (cond (kind == 8) (refused_at bytes at) (cond (kind == 9) (ended_at bytes at) (cond (kind == 10) (ask_at bytes at) (cond (kind == 11) (sync_ask_at bytes at) (cond (kind == 12) (sync_give_at bytes at) (cond (kind == 13) (client_read_at bytes at) (cond (kind == 14) (client_begin_at bytes at) (bodies_from_15 kind))))))))))) n3 lead_shows (λ n4.
-      choose kind 5 (prepare_at bytes at) (cond (kind == 6) (promise_at bytes at) (cond (kind == 7) (accept_at bytes at) (cond (kind == 8) (refused_at bytes at) (cond (kind == 9) (ended_at bytes at) (cond (kind == 10) (ask_at bytes at) (cond (kind == 11) (sync_ask_at bytes at) (cond (kind == 12) (sync_give_at bytes at) (cond (kind == 13) (client_read_at bytes at) (cond (kind == 14) (client_begin_at bytes at) (bodies_from_15 kind)))))))))) n4 prepare_shows (λ n5.
-      choose kind 6 (promise_at bytes at) (cond (kind == 7) (accept_at bytes at) (cond (kind == 8) (refused_at bytes at) (cond (kind == 9) (ended_at bytes at) (cond (kind == 10) (ask_at bytes at) (cond (kind == 11) (sync_ask_at bytes at) (cond (kind == 12) (sync_give_at bytes at) (cond (kind == 13) (client_read_at bytes at) (cond (kind == 14) (client_begin_at bytes at) (bodies_from_15 kind))))))))) n5 promise_shows (λ n6.
-      choose kind 7 (accept_at bytes at) (cond (kind == 8) (refused_at bytes at) (cond (kind == 9) (ended_at bytes at) (cond (kind == 10) (ask_at bytes at) (cond (kind == 11) (sync_ask_at bytes at) (cond (kind == 12) (sync_give_at bytes at) (cond (kind == 13) (client_read_at bytes at) (cond (kind == 14) (client_begin_at bytes at) (bodies_from_15 kind)))))))) n6 accept_shows (λ n7.
-      choose kind 8 (refused_at bytes at) (cond (kind == 9) (ended_at bytes at) (cond (kind == 10) (ask_at bytes at) (cond (kind == 11) (sync_ask_at bytes at) (cond (kind == 12) (sync_give_at bytes at) (cond (kind == 13) (client_read_at bytes at) (cond (kind == 14) (client_begin_at bytes at) (bodies_from_15 kind))))))) n7 refused_shows (λ n8.
+      choose kind 1 (propose_at bytes at) (cond (kind == 2) (voted_at bytes at) (cond (kind == 3) (escalate_at bytes at) (cond (kind == 4) (lead_at bytes at) (cond (kind == 5) (prepare_at bytes at) (cond (kind == 6) (promise_at bytes at) (cond (kind == 7) (accept_at bytes at) (cond (kind == 8) (refused_message_at bytes at) (cond (kind == 9) (ended_at bytes at) (cond (kind == 10) (ask_at bytes at) (cond (kind == 11) (sync_ask_at bytes at) (cond (kind == 12) (sync_give_at bytes at) (cond (kind == 13) (client_read_at bytes at) (cond (kind == 14) (client_begin_at bytes at) (bodies_from_15 kind)))))))))))))) range.0 propose_shows (λ n1.
+      choose kind 2 (voted_at bytes at) (cond (kind == 3) (escalate_at bytes at) (cond (kind == 4) (lead_at bytes at) (cond (kind == 5) (prepare_at bytes at) (cond (kind == 6) (promise_at bytes at) (cond (kind == 7) (accept_at bytes at) (cond (kind == 8) (refused_message_at bytes at) (cond (kind == 9) (ended_at bytes at) (cond (kind == 10) (ask_at bytes at) (cond (kind == 11) (sync_ask_at bytes at) (cond (kind == 12) (sync_give_at bytes at) (cond (kind == 13) (client_read_at bytes at) (cond (kind == 14) (client_begin_at bytes at) (bodies_from_15 kind))))))))))))) n1 voted_shows (λ n2.
+      choose kind 3 (escalate_at bytes at) (cond (kind == 4) (lead_at bytes at) (cond (kind == 5) (prepare_at bytes at) (cond (kind == 6) (promise_at bytes at) (cond (kind == 7) (accept_at bytes at) (cond (kind == 8) (refused_message_at bytes at) (cond (kind == 9) (ended_at bytes at) (cond (kind == 10) (ask_at bytes at) (cond (kind == 11) (sync_ask_at bytes at) (cond (kind == 12) (sync_give_at bytes at) (cond (kind == 13) (client_read_at bytes at) (cond (kind == 14) (client_begin_at bytes at) (bodies_from_15 kind)))))))))))) n2 escalate_shows (λ n3.
+      choose kind 4 (lead_at bytes at) (cond (kind == 5) (prepare_at bytes at) (cond (kind == 6) (promise_at bytes at) (cond (kind == 7) (accept_at bytes at) (cond (kind == 8) (refused_message_at bytes at) (cond (kind == 9) (ended_at bytes at) (cond (kind == 10) (ask_at bytes at) (cond (kind == 11) (sync_ask_at bytes at) (cond (kind == 12) (sync_give_at bytes at) (cond (kind == 13) (client_read_at bytes at) (cond (kind == 14) (client_begin_at bytes at) (bodies_from_15 kind))))))))))) n3 lead_shows (λ n4.
+      choose kind 5 (prepare_at bytes at) (cond (kind == 6) (promise_at bytes at) (cond (kind == 7) (accept_at bytes at) (cond (kind == 8) (refused_message_at bytes at) (cond (kind == 9) (ended_at bytes at) (cond (kind == 10) (ask_at bytes at) (cond (kind == 11) (sync_ask_at bytes at) (cond (kind == 12) (sync_give_at bytes at) (cond (kind == 13) (client_read_at bytes at) (cond (kind == 14) (client_begin_at bytes at) (bodies_from_15 kind)))))))))) n4 prepare_shows (λ n5.
+      choose kind 6 (promise_at bytes at) (cond (kind == 7) (accept_at bytes at) (cond (kind == 8) (refused_message_at bytes at) (cond (kind == 9) (ended_at bytes at) (cond (kind == 10) (ask_at bytes at) (cond (kind == 11) (sync_ask_at bytes at) (cond (kind == 12) (sync_give_at bytes at) (cond (kind == 13) (client_read_at bytes at) (cond (kind == 14) (client_begin_at bytes at) (bodies_from_15 kind))))))))) n5 promise_shows (λ n6.
+      choose kind 7 (accept_at bytes at) (cond (kind == 8) (refused_message_at bytes at) (cond (kind == 9) (ended_at bytes at) (cond (kind == 10) (ask_at bytes at) (cond (kind == 11) (sync_ask_at bytes at) (cond (kind == 12) (sync_give_at bytes at) (cond (kind == 13) (client_read_at bytes at) (cond (kind == 14) (client_begin_at bytes at) (bodies_from_15 kind)))))))) n6 accept_shows (λ n7.
+      choose kind 8 (refused_message_at bytes at) (cond (kind == 9) (ended_at bytes at) (cond (kind == 10) (ask_at bytes at) (cond (kind == 11) (sync_ask_at bytes at) (cond (kind == 12) (sync_give_at bytes at) (cond (kind == 13) (client_read_at bytes at) (cond (kind == 14) (client_begin_at bytes at) (bodies_from_15 kind))))))) n7 refused_shows (λ n8.
       choose kind 9 (ended_at bytes at) (cond (kind == 10) (ask_at bytes at) (cond (kind == 11) (sync_ask_at bytes at) (cond (kind == 12) (sync_give_at bytes at) (cond (kind == 13) (client_read_at bytes at) (cond (kind == 14) (client_begin_at bytes at) (bodies_from_15 kind)))))) n8 ended_shows (λ n9.
       choose kind 10 (ask_at bytes at) (cond (kind == 11) (sync_ask_at bytes at) (cond (kind == 12) (sync_give_at bytes at) (cond (kind == 13) (client_read_at bytes at) (cond (kind == 14) (client_begin_at bytes at) (bodies_from_15 kind))))) n9 ask_shows (λ n10.
       choose kind 11 (sync_ask_at bytes at) (cond (kind == 12) (sync_give_at bytes at) (cond (kind == 13) (client_read_at bytes at) (cond (kind == 14) (client_begin_at bytes at) (bodies_from_15 kind)))) n10 sync_ask_shows (λ n11.
@@ -277,8 +277,8 @@ module _ (bytes : List ℕ) (at : ℕ) where
 -- what is found of a message that is read
 pub record IsShown (bytes : List ℕ) (e : Envelope) : Type 0 where
   pub kind : kind_or_none (u8_at bytes 1) ≡ kind_of e.message
-  pub choice : choice_by (kind_or_none (u8_at bytes 1)) bytes 4 ≡ choice_in e.message
-  pub marks : marks_by (kind_or_none (u8_at bytes 1)) bytes 4 ≡ marks_in e.message
+  pub choice : choice_by (kind_or_none (u8_at bytes 1)) bytes 4 ≡ message_choice e.message
+  pub marks : marks_by (kind_or_none (u8_at bytes 1)) bytes 4 ≡ message_marks e.message
 
 is_shown : (bytes : List ℕ) (e : Envelope) → view_of bytes ≡ Ok e → IsShown bytes e
 is_shown bytes e h =
@@ -288,9 +288,9 @@ is_shown bytes e h =
     record { kind = kind ∙ sym s.0; choice = ap (λ k. choice_by k bytes 4) kind ∙ s.1; marks = ap (λ k. marks_by k bytes 4) kind ∙ s.2 }
   where
     found : (kind : ℕ) (read : Result (Message × ℕ) WireFault) → read ≡ Ok (e.message, length bytes) → Shows kind bytes 4 read
-        → (kind_of e.message ≡ kind) × (choice_by kind bytes 4 ≡ choice_in e.message) × (marks_by kind bytes 4 ≡ marks_in e.message)
+        → (kind_of e.message ≡ kind) × (choice_by kind bytes 4 ≡ message_choice e.message) × (marks_by kind bytes 4 ≡ message_marks e.message)
     found kind (Ok x) is h =
-        subst (λ (y : Message × ℕ). (kind_of y.0 ≡ kind) × (choice_by kind bytes 4 ≡ choice_in y.0) × (marks_by kind bytes 4 ≡ marks_in y.0)) (ok_is x (e.message, length bytes) is) h
+        subst (λ (y : Message × ℕ). (kind_of y.0 ≡ kind) × (choice_by kind bytes 4 ≡ message_choice y.0) × (marks_by kind bytes 4 ≡ message_marks y.0)) (ok_is x (e.message, length bytes) is) h
     found kind (Err fault) is h = absurd cc
 
 pub if_shown : (bytes : List ℕ) (P : Envelope → Type 0) → ((e : Envelope) → IsShown bytes e → P e) → IfOk (view_of bytes) P

@@ -1,8 +1,8 @@
 -- Which messages are written, and by which of the functions.
 use Rattle.std.specs.Prelude.{ℕ, Bool, true, false, nat_lt, ◌||◌, ◌==◌, if◌then◌else◌, Result, Ok, Err}
 use Rattle.std.specs.Int.{is_in_range}
-use Rattle.mdcc_messages.specs.declared.messages.Envelope.{Envelope}
-use Rattle.mdcc_messages.specs.Lengths.{message_length}
+use Rattle.mdcc_def_messages.specs.declared.messages.Envelope.{Envelope}
+use Rattle.mdcc_def_messages.specs.Lengths.{message_length}
 use Rattle.mdcc_wire.specs.declared.encoding.EncodeFault.{EncodeFault}
 use Rattle.mdcc_wire.specs.declared.encoding.EncodeFault.TheVariants.{TooLong, Memory}
 

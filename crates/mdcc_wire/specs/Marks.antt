@@ -3,10 +3,10 @@ use Rattle.std.specs.Prelude.{ℕ, zero, suc, ◌==◌, if◌then◌else◌, Lis
 use Rattle.mdcc_base.specs.declared.identifiers.TxId.{TxId}
 use Rattle.mdcc_option.specs.declared.choices.Mark.{Mark}
 use Rattle.mdcc_struct.specs.Options.{Marks}
-use Rattle.mdcc_messages.specs.declared.wire.WireFault.{WireFault}
-use Rattle.mdcc_messages.specs.ReadingSteps.{◌>>=◌, u32_at, u64_at, checked}
-use Rattle.mdcc_messages.specs.ReadingParts.{ballot_at, classic_at, entry_behind}
-use Rattle.mdcc_messages.specs.Reading.{instance_at, at_least}
+use Rattle.mdcc_def_messages.specs.declared.wire.WireFault.{WireFault}
+use Rattle.mdcc_def_messages.specs.ReadingSteps.{◌>>=◌, u32_at, u64_at, checked}
+use Rattle.mdcc_def_messages.specs.ReadingParts.{ballot_at, classic_at, entry_behind}
+use Rattle.mdcc_def_messages.specs.Reading.{instance_at, at_least}
 
 -- what follows from what was read, or nothing
 abbrev pub marks_if : {X : Type 0} → Result X WireFault → (X → Marks) → Marks

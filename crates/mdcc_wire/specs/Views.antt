@@ -2,12 +2,12 @@
 use Rattle.std.specs.Prelude.{ℕ, Bool, not, ◌&&◌, ◌||◌, ◌==◌, if◌then◌else◌, List, [], Option, Some, None, Result, Ok, Err}
 use Rattle.mdcc_option.specs.declared.choices.Choice.{Choice}
 use Rattle.mdcc_struct.specs.Options.{Marks}
-use Rattle.mdcc_messages.specs.declared.messages.Message.{Message}
-use Rattle.mdcc_messages.specs.declared.messages.Message.TheVariants as messages
-use Rattle.mdcc_messages.specs.declared.wire.WireFault.{WireFault}
-use Rattle.mdcc_messages.specs.ReadingSteps.{◌>>=◌, u8_at, checked}
-use Rattle.mdcc_messages.specs.ReadingParts.{choice_at}
-use Rattle.mdcc_messages.specs.Reading.{known, known_in, endpoint, whole, body_at, view_of}
+use Rattle.mdcc_def_messages.specs.declared.messages.Message.{Message}
+use Rattle.mdcc_def_messages.specs.declared.messages.Message.TheVariants as messages
+use Rattle.mdcc_def_messages.specs.declared.wire.WireFault.{WireFault}
+use Rattle.mdcc_def_messages.specs.ReadingSteps.{◌>>=◌, u8_at, checked}
+use Rattle.mdcc_def_messages.specs.ReadingParts.{choice_at}
+use Rattle.mdcc_def_messages.specs.Reading.{known, known_in, endpoint, whole, body_at, view_of}
 use Rattle.mdcc_parts.specs.Reads.{end_of}
 
 -- a kind whose messages take no memory: all but promises and accepts, which have structures, and what a centre gives
@@ -44,16 +44,16 @@ placed_whole (Err fault) x = Err fault
 -- ---- what stands in a message
 
 -- the choice that is proposed, or for which a leader is asked
-abbrev pub choice_in : Message → Option Choice
-choice_in (messages.Propose choice) = Some choice
-choice_in (messages.Lead choice) = Some choice
-choice_in _ = None
+abbrev pub message_choice : Message → Option Choice
+message_choice (messages.Propose choice) = Some choice
+message_choice (messages.Lead choice) = Some choice
+message_choice _ = None
 
 -- the marks of its structure
-abbrev pub marks_in : Message → Marks
-marks_in (messages.Promise key version through ballot reported votes) = votes
-marks_in (messages.Accept key version ballot options) = options
-marks_in _ = []
+abbrev pub message_marks : Message → Marks
+message_marks (messages.Promise key version through ballot reported votes) = votes
+message_marks (messages.Accept key version ballot options) = options
+message_marks _ = []
 
 -- ---- where it is looked for
 

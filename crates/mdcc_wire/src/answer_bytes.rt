@@ -1,14 +1,14 @@
 //! What a client is answered, appended to bytes where the capacity is there.
 ghost use Rattle.std.specs.Prelude.{◌≡◌, ◌≤◌, ◌+◌, ◌++◌, vec_len, vec_capacity};
-ghost use Rattle.mdcc_messages.specs.SpelledParts.{tx_bytes};
-ghost use Rattle.mdcc_messages.specs.SpelledAnswers.{flag_bytes, shown_item_bytes, begin_fault_bytes, draft_fault_number, answer_bytes};
-ghost use Rattle.mdcc_messages.specs.Lengths.{shown_item_length, begin_fault_length, answer_length};
+ghost use Rattle.mdcc_def_messages.specs.SpelledParts.{tx_bytes};
+ghost use Rattle.mdcc_def_messages.specs.SpelledAnswers.{flag_bytes, shown_item_bytes, begin_fault_bytes, draft_fault_number, answer_bytes};
+ghost use Rattle.mdcc_def_messages.specs.Lengths.{shown_item_length, begin_fault_length, answer_length};
 
-use mdcc_append::appending::{put_item, put_key, put_seen, put_tx, put_u8, put_u64};
-use mdcc_append::lengths::{item_length, key_length, seen_length};
 use mdcc_base::TxId;
-use mdcc_messages::ClientAnswer;
+use mdcc_def_messages::ClientAnswer;
 use mdcc_option::{BeginFault, DraftFault, Item};
+use mdcc_parts_append::appending::{put_item, put_key, put_seen, put_tx, put_u8, put_u64};
+use mdcc_parts_append::lengths::{item_length, key_length, seen_length};
 
 // How many bytes an item has that may be there.
 fn shown_item_length(item: &Option<Item>) -> usize

@@ -1,8 +1,8 @@
 //! What a client is answered, read from bytes.
 ghost use Rattle.std.specs.Prelude.{◌≡◌};
-ghost use Rattle.mdcc_messages.specs.ReadingAnswers.{some_item_at, shown_item_at, stale_at, unseen_at, begin_fault_by, begin_fault_at, draft_fault_of, read_answer_at, begun_answer_at, refused_answer_at, heard_answer_at, draft_answer_at, answer_by, answer_at};
+ghost use Rattle.mdcc_def_messages.specs.ReadingAnswers.{some_item_at, shown_item_at, stale_at, unseen_at, begin_fault_by, begin_fault_at, draft_fault_of, read_answer_at, begun_answer_at, refused_answer_at, heard_answer_at, draft_answer_at, answer_by, answer_at};
 
-use mdcc_messages::{ClientAnswer, WireFault};
+use mdcc_def_messages::{ClientAnswer, WireFault};
 use mdcc_option::{BeginFault, DraftFault, Item, Token};
 use mdcc_parts::identifiers::{read_key, read_tx};
 use mdcc_parts::items::{read_item, read_seen};

@@ -1,13 +1,13 @@
 //! The bodies of messages that take no memory, read from bytes.
 ghost use Rattle.std.specs.Prelude.{◌≡◌, ◌≤◌, None, true};
-ghost use Rattle.mdcc_messages.specs.ReadingSteps.{elements_at, list_at};
-ghost use Rattle.mdcc_messages.specs.ReadingParts.{part_behind};
-ghost use Rattle.mdcc_messages.specs.Reading.{propose_at, voted_at, escalate_at, lead_at, prepare_at, refused_at, ended_at, ask_at, sync_ask_at, client_read_at, client_begin_at, client_answer_at, mark_at, finished_at, body_at};
+ghost use Rattle.mdcc_def_messages.specs.ReadingSteps.{elements_at, list_at};
+ghost use Rattle.mdcc_def_messages.specs.ReadingParts.{part_behind};
+ghost use Rattle.mdcc_def_messages.specs.Reading.{propose_at, voted_at, escalate_at, lead_at, prepare_at, refused_message_at, ended_at, ask_at, sync_ask_at, client_read_at, client_begin_at, client_answer_at, mark_at, finished_at, body_at};
 ghost use Rattle.mdcc_wire.specs.Views.{is_plain, placed};
 
 use crate::answers::read_answer;
 use mdcc_base::{BoundedList, Key};
-use mdcc_messages::{Message, WireFault};
+use mdcc_def_messages::{Message, WireFault};
 use mdcc_option::Part;
 use mdcc_parts::choices::read_choice;
 use mdcc_parts::given::{read_at_least, read_heard, read_instance};
@@ -90,7 +90,7 @@ fn prepare_into(bytes: &[u8], at: usize, into: &mut Message) -> Result<usize, Wi
 
 // A ballot that is refused, and the one that was promised.
 fn refused_into(bytes: &[u8], at: usize, into: &mut Message) -> Result<usize, WireFault>
-    ensures { placed result into.new ≡ refused_at bytes.now at }
+    ensures { placed result into.new ≡ refused_message_at bytes.now at }
 {
     let ((key, version), after) = read_instance(bytes, at)?;
     let (ballot, after) = read_classic(bytes, after)?;

@@ -1,17 +1,17 @@
 //! Kinds of messages, and how many bytes messages have.
 ghost use Rattle.std.specs.Prelude.{◌≡◌, ◌≤◌, ◌+◌, ◌^◌, length};
 ghost use Rattle.mdcc_base.specs.Counts.{sum_over};
-ghost use Rattle.mdcc_messages.specs.Spelling.{kind_of, format_of};
-ghost use Rattle.mdcc_messages.specs.Lengths.{part_length, body_length, message_length};
-ghost use Rattle.mdcc_wire.specs.Counts.{HasCounts};
+ghost use Rattle.mdcc_def_messages.specs.Spelling.{kind_of, format_of};
+ghost use Rattle.mdcc_def_messages.specs.Lengths.{part_length, body_length, message_length};
+ghost use Rattle.mdcc_wire.specs.Counts.{HasMessageCounts};
 
 use crate::answer_bytes::answer_length;
-use mdcc_append::lengths::{
+use mdcc_def_messages::{Envelope, Message};
+use mdcc_option::Part;
+use mdcc_parts_append::lengths::{
     cause_length, choice_length, entry_length, given_length, heard_length, key_length,
     options_length, part_length,
 };
-use mdcc_messages::{Envelope, Message};
-use mdcc_option::Part;
 
 /// The number of a message's kind, from 1 to 17.
 pub fn kind_of(message: &Message) -> u8
@@ -64,7 +64,7 @@ fn parts_length(parts: &[Part]) -> usize
 
 // How many bytes the body of a message has.
 fn body_length(message: &Message) -> usize
-    requires { HasCounts message.now }
+    requires { HasMessageCounts message.now }
     ensures value { result ≡ body_length message.now }
     ensures bound { result ≤ 2 ^ 44 }
 {
@@ -96,7 +96,7 @@ fn body_length(message: &Message) -> usize
 
 /// How many bytes a message has.
 pub fn message_length(envelope: &Envelope) -> usize
-    requires { HasCounts envelope.now.message }
+    requires { HasMessageCounts envelope.now.message }
     ensures { result ≡ message_length envelope.now }
 {
     4 + body_length(&envelope.message)

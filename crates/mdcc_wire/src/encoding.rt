@@ -2,22 +2,22 @@
 ghost use Rattle.std.specs.Prelude.{◌≡◌, ◌≤◌, ◌+◌, ◌++◌, length, vec_len, vec_capacity, true, false, IsTrue, IsOk, Err, OnOk, OnErr};
 ghost use Rattle.mdcc_base.specs.Counts.{sum_over};
 ghost use Rattle.mdcc_base.specs.Unless.{GivesUnless};
-ghost use Rattle.mdcc_messages.specs.Bytes.{u64_bytes, counted};
-ghost use Rattle.mdcc_messages.specs.SpelledParts.{key_bytes, part_bytes};
-ghost use Rattle.mdcc_messages.specs.Spelling.{kind_of, body_bytes, message_bytes};
-ghost use Rattle.mdcc_messages.specs.Lengths.{key_length, part_length, body_length, message_length};
-ghost use Rattle.mdcc_wire.specs.Counts.{HasCounts};
+ghost use Rattle.mdcc_def_messages.specs.Bytes.{u64_bytes, counted_bytes};
+ghost use Rattle.mdcc_def_messages.specs.SpelledParts.{key_bytes, part_bytes};
+ghost use Rattle.mdcc_def_messages.specs.Spelling.{kind_of, body_bytes, message_bytes};
+ghost use Rattle.mdcc_def_messages.specs.Lengths.{key_length, part_length, body_length, message_length};
+ghost use Rattle.mdcc_wire.specs.Counts.{HasMessageCounts};
 ghost use Rattle.mdcc_wire.specs.Encoding.{is_too_long, is_no_memory, encoded, is_of_option, is_of_ballot, is_of_structure, is_of_state, is_of_floor};
 
 use crate::answer_bytes::put_answer;
 use crate::body_lengths::{format_of, kind_of, message_length};
-use mdcc_append::appending::{
+use mdcc_base::{Key, Memory};
+use mdcc_def_messages::{Envelope, Message};
+use mdcc_option::Part;
+use mdcc_parts_append::appending::{
     put_ballot, put_choice, put_key, put_part, put_tx, put_u8, put_u32, put_u64,
 };
-use mdcc_append::marks::{put_cause, put_entry, put_given, put_heard, put_options};
-use mdcc_base::{Key, Memory};
-use mdcc_messages::{Envelope, Message};
-use mdcc_option::Part;
+use mdcc_parts_append::marks::{put_cause, put_entry, put_given, put_heard, put_options};
 
 /// Why a message is not written. Nothing of it is.
 #[derive(Clone, Copy, Debug, PartialEq, Eq)]
@@ -54,7 +54,7 @@ fn put_instance(key: &Key, version: u64, out: &mut Vec<u8>)
 fn put_parts(parts: &[Part], out: &mut Vec<u8>)
     requires few { length parts.now ≤ 8 }
     requires room { vec_len out.old + 1 + sum_over part_length parts.now ≤ vec_capacity out.old }
-    ensures bytes { out.new.items ≡ out.old.items ++ counted part_bytes parts.now }
+    ensures bytes { out.new.items ≡ out.old.items ++ counted_bytes part_bytes parts.now }
     ensures len { vec_len out.new ≡ vec_len out.old + 1 + sum_over part_length parts.now }
     ensures capacity { vec_capacity out.old ≤ vec_capacity out.new }
 {
@@ -139,7 +139,7 @@ fn put_ballot_body(message: &Message, out: &mut Vec<u8>)
 // Appends the body of a message with a structure: of kind 6 or 7.
 fn put_structure_body(message: &Message, out: &mut Vec<u8>)
     requires kind { is_of_structure (kind_of message.now) ≡ true }
-    requires counts { HasCounts message.now }
+    requires counts { HasMessageCounts message.now }
     requires room { vec_len out.old + body_length message.now ≤ vec_capacity out.old }
     ensures bytes { out.new.items ≡ out.old.items ++ body_bytes message.now }
     ensures capacity { vec_capacity out.old ≤ vec_capacity out.new }
@@ -176,7 +176,7 @@ fn put_structure_body(message: &Message, out: &mut Vec<u8>)
 // Appends the body of a message that brings a centre or a client up to date: of kind 11 to 15.
 fn put_state_body(message: &Message, out: &mut Vec<u8>)
     requires kind { is_of_state (kind_of message.now) ≡ true }
-    requires counts { HasCounts message.now }
+    requires counts { HasMessageCounts message.now }
     requires room { vec_len out.old + body_length message.now ≤ vec_capacity out.old }
     ensures bytes { out.new.items ≡ out.old.items ++ body_bytes message.now }
     ensures capacity { vec_capacity out.old ≤ vec_capacity out.new }
@@ -226,7 +226,7 @@ fn put_floor_body(message: &Message, out: &mut Vec<u8>)
 // Appends the body of a message of this kind.
 fn put_body(kind: u8, message: &Message, out: &mut Vec<u8>)
     requires kind { kind ≡ kind_of message.now }
-    requires counts { HasCounts message.now }
+    requires counts { HasMessageCounts message.now }
     requires room { vec_len out.old + body_length message.now ≤ vec_capacity out.old }
     ensures bytes { out.new.items ≡ out.old.items ++ body_bytes message.now }
 {
@@ -241,7 +241,7 @@ fn put_body(kind: u8, message: &Message, out: &mut Vec<u8>)
 
 /// Writes a message behind the bytes that are there, however long it is.
 pub fn write_message(envelope: &Envelope, out: &mut Vec<u8>) -> Result<(), Memory>
-    requires { HasCounts envelope.now.message }
+    requires { HasMessageCounts envelope.now.message }
     ensures ok { OnOk result (out.new.items ≡ out.old.items ++ message_bytes envelope.now) }
     ensures err { OnErr result (out.new.items ≡ out.old.items) }
     ensures succeeds { vec_len out.old + message_length envelope.now ≤ vec_capacity out.old → IsOk result }
@@ -258,7 +258,7 @@ pub fn write_message(envelope: &Envelope, out: &mut Vec<u8>) -> Result<(), Memor
 
 /// Writes a message behind the bytes that are there.
 pub fn encode(envelope: &Envelope, out: &mut Vec<u8>) -> Result<(), EncodeFault>
-    requires { HasCounts envelope.now.message }
+    requires { HasMessageCounts envelope.now.message }
     ensures exact { GivesUnless is_no_memory result (encoded envelope.now) }
     // A message that is too long is told before any memory is asked for.
     ensures too_long { IsTrue (is_too_long envelope.now) → result ≡ Err EncodeFault.TooLong }

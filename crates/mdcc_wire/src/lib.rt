@@ -14,5 +14,5 @@ pub mod viewing;
 pub use body_lengths::{kind_of, message_length};
 pub use encoding::{EncodeFault, encode, write_message};
 pub use marks::MarkViews;
-pub use mdcc_messages::{ClientAnswer, Envelope, Message, WireFault};
+pub use mdcc_def_messages::{ClientAnswer, Envelope, Message, WireFault};
 pub use viewing::{Viewed, empty_envelope, read_envelope, view, view_written};

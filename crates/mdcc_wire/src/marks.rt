@@ -1,11 +1,11 @@
 //! The marks of a message, one after another.
 ghost use Rattle.std.specs.Prelude.{◌≡◌, [], ◌∷◌, ◌-◌, None, Some, IfNone, IfSome};
 ghost use Rattle.std.specs.Iterator.{YieldsFirst, item_count};
-ghost use Rattle.mdcc_messages.specs.ReadingParts.{entry_behind};
+ghost use Rattle.mdcc_def_messages.specs.ReadingParts.{entry_behind};
 ghost use Rattle.mdcc_wire.specs.Marks.{marks_from, options_marks, votes_place, options_place, promise_marks, accept_marks, marks_by};
 
 use mdcc_base::{Key, TxId};
-use mdcc_messages::WireFault;
+use mdcc_def_messages::WireFault;
 use mdcc_option::Mark;
 use mdcc_parts::given::{read_at_least, read_instance};
 use mdcc_parts::identifiers::{read_ballot, read_classic};
@@ -28,7 +28,7 @@ pub struct MarkViews<'a> {
 
 impl<'a> Model for MarkViews<'a> {
     ghost use Rattle.mdcc_struct.specs.Options.{Marks};
-    ghost use Rattle.mdcc_messages.specs.ReadingParts.{entry_behind};
+    ghost use Rattle.mdcc_def_messages.specs.ReadingParts.{entry_behind};
     ghost use Rattle.mdcc_wire.specs.Marks.{marks_from};
 
     ghost Value = { Marks };

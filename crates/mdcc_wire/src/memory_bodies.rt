@@ -3,10 +3,10 @@ ghost use Rattle.std.specs.Prelude.{◌≡◌};
 ghost use Rattle.mdcc_base.specs.Unless.{GivesUnless};
 ghost use Rattle.mdcc_parts.specs.Reads.{end_of, is_wire_memory};
 ghost use Rattle.mdcc_wire.specs.Views.{placed};
-ghost use Rattle.mdcc_messages.specs.Reading.{promise_at, accept_at, sync_give_at, body_at};
+ghost use Rattle.mdcc_def_messages.specs.Reading.{promise_at, accept_at, sync_give_at, body_at};
 
 use crate::bodies::{empty_message, plain_body_into};
-use mdcc_messages::{Message, WireFault};
+use mdcc_def_messages::{Message, WireFault};
 use mdcc_parts::given::{check_given, read_at_least, read_given, read_instance};
 use mdcc_parts::identifiers::{read_ballot, read_classic};
 use mdcc_parts::marks::{check_options, read_options};

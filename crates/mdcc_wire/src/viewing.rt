@@ -2,17 +2,17 @@
 ghost use Rattle.std.specs.Prelude.{◌≡◌, Ok, IfOk, IsOk, OnOk};
 ghost use Rattle.mdcc_base.specs.Unless.{GivesUnless};
 ghost use Rattle.mdcc_parts.specs.Reads.{is_wire_memory};
-ghost use Rattle.mdcc_messages.specs.ReadingSteps.{checked, u8_at};
-ghost use Rattle.mdcc_messages.specs.Reading.{known, known_in, endpoint, view_of};
-ghost use Rattle.mdcc_messages.specs.Spelling.{kind_of};
-ghost use Rattle.mdcc_messages.specs.ReadingParts.{choice_at};
-ghost use Rattle.mdcc_wire.specs.Views.{viewed, passed, placed_whole, choice_in, marks_in, kind_or_none, choice_or_none, choice_by};
+ghost use Rattle.mdcc_def_messages.specs.ReadingSteps.{checked, u8_at};
+ghost use Rattle.mdcc_def_messages.specs.Reading.{known, known_in, endpoint, view_of};
+ghost use Rattle.mdcc_def_messages.specs.Spelling.{kind_of};
+ghost use Rattle.mdcc_def_messages.specs.ReadingParts.{choice_at};
+ghost use Rattle.mdcc_wire.specs.Views.{viewed, passed, placed_whole, message_choice, message_marks, kind_or_none, choice_or_none, choice_by};
 
 use crate::bodies::empty_message;
 use crate::marks::{MarkViews, marks_by};
 use crate::memory_bodies::{check_body, read_body};
 use mdcc_base::Memory;
-use mdcc_messages::{Envelope, WireFault};
+use mdcc_def_messages::{Envelope, WireFault};
 use mdcc_option::Choice;
 use mdcc_parts::choices::read_choice;
 use mdcc_parts::numbers::u8_at;
@@ -27,7 +27,7 @@ pub struct Viewed<'a> {
 
 impl<'a> Model for Viewed<'a> {
     ghost use Rattle.std.specs.Prelude.{List, ℕ, IsOk};
-    ghost use Rattle.mdcc_messages.specs.Reading.{view_of};
+    ghost use Rattle.mdcc_def_messages.specs.Reading.{view_of};
 
     ghost Value = { List ℕ };
 
@@ -174,14 +174,14 @@ fn kind_at(bytes: &[u8]) -> u8
 
 // The choice of the message that the bytes spell.
 fn choice_of(bytes: &[u8]) -> Option<Choice>
-    ensures { IfOk (view_of bytes.now) (λ envelope. result ≡ choice_in envelope.message) }
+    ensures { IfOk (view_of bytes.now) (λ envelope. result ≡ message_choice envelope.message) }
 {
     choice_by(kind_byte(bytes), bytes, 4)
 }
 
 // The marks of the message that the bytes spell.
 fn marks_of(bytes: &[u8]) -> MarkViews<'_>
-    ensures { IfOk (view_of bytes.now) (λ envelope. result ≡ marks_in envelope.message) }
+    ensures { IfOk (view_of bytes.now) (λ envelope. result ≡ message_marks envelope.message) }
 {
     marks_by(kind_byte(bytes), bytes, 4)
 }
@@ -215,14 +215,14 @@ impl<'a> Viewed<'a> {
 
     /// The choice that is proposed, or for which a leader is asked.
     pub fn choice(&self) -> Option<Choice>
-        ensures { IfOk (view_of self.now) (λ envelope. result ≡ choice_in envelope.message) }
+        ensures { IfOk (view_of self.now) (λ envelope. result ≡ message_choice envelope.message) }
     {
         choice_of(self.bytes)
     }
 
     /// The marks of its structure, one after another. A kind without a structure has none.
     pub fn marks(&self) -> MarkViews<'a>
-        ensures { IfOk (view_of self.now) (λ envelope. result ≡ marks_in envelope.message) }
+        ensures { IfOk (view_of self.now) (λ envelope. result ≡ message_marks envelope.message) }
     {
         marks_of(self.bytes)
     }

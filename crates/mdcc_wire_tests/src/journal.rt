@@ -7,8 +7,8 @@ use crate::bytes::{
 };
 use crate::spelled::are_same;
 use mdcc_base::{Ballot, BoundedList, HeapList, Plain};
+use mdcc_def_messages::Fact;
 use mdcc_journal::{decode_fact, encode_fact, fact_length};
-use mdcc_messages::Fact;
 use mdcc_option::{Choice, Delta, Outcome};
 use mdcc_struct::Options;
 use std::alloc::Global;

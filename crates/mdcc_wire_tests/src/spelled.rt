@@ -1,5 +1,5 @@
 //! What is asked of a message and its bytes: that it is written so, and read as what it was.
-ghost use Rattle.mdcc_wire.specs.Counts.{HasCounts};
+ghost use Rattle.mdcc_wire.specs.Counts.{HasMessageCounts};
 
 use crate::bytes::joined;
 use mdcc_struct::Options;
@@ -17,7 +17,7 @@ fn headed(alloc: Global, kind: u8, body: &[&[u8]]) -> Result<Vec<u8>, Fail> {
 
 /// Whether the message is written as the head of this kind and this body.
 pub fn is_written(alloc: Global, kind: u8, message: Message, body: &[&[u8]]) -> Result<bool, Fail>
-    requires { HasCounts message }
+    requires { HasMessageCounts message }
 {
     let bytes = headed(alloc, kind, body)?;
     let sent = Envelope {

@@ -6,23 +6,23 @@ use Rattle.mdcc_option.specs.Transaction.{transaction_of}
 use Rattle.mdcc_option.specs.declared.cluster.Cluster.{Cluster}
 use Rattle.mdcc_option.specs.declared.items.Known.{Known}
 use Rattle.mdcc_option.specs.declared.items.Part.{Part}
-use Rattle.mdcc_language.specs.Resolve.{resolve}
-use Rattle.mdcc_simulation.specs.State.{World, is_up_at}
-use Rattle.mdcc_simulation.specs.Events.{after_event}
-use Rattle.mdcc_language.specs.declared.events.Event.{Event}
-use Rattle.mdcc_language.specs.declared.events.UpdateWord.{UpdateWord}
-use Rattle.mdcc_language.specs.declared.lines.Line.{Line}
-use Rattle.mdcc_language.specs.declared.schedule.ResolveFault.{ResolveFault}
-use Rattle.mdcc_language.specs.declared.world.EventFault.{EventFault}
+use Rattle.mdcc_def_language.specs.Resolve.{resolve}
+use Rattle.mdcc_def_simulation.specs.State.{World, is_up_at}
+use Rattle.mdcc_def_simulation.specs.Events.{after_event}
+use Rattle.mdcc_def_language.specs.declared.events.Event.{Event}
+use Rattle.mdcc_def_language.specs.declared.events.UpdateWord.{UpdateWord}
+use Rattle.mdcc_def_language.specs.declared.lines.Line.{Line}
+use Rattle.mdcc_def_language.specs.declared.schedule.ResolveFault.{ResolveFault}
+use Rattle.mdcc_def_language.specs.declared.world.EventFault.{EventFault}
 use Rattle.mdcc_sched.specs.Free.{is_resolve_memory}
-use Rattle.mdcc_steps.specs.Inputs.{AreWellFormedParts}
+use Rattle.mdcc_theorem_node_steps.specs.Inputs.{AreWellFormedParts}
 use Rattle.mdcc_world.proofs.Happened.{memory-happens}
 use Rattle.mdcc_world.specs.Represents.{Happens, IsLike}
 use Rattle.mdcc_world.specs.declared.world.World.{World as TheWorld}
-use Rattle.mdcc_worlds.proofs.Drafting.{parts-formed}
-use Rattle.mdcc_worlds.proofs.Events.{begin-is}
-use Rattle.mdcc_worlds.specs.BeginEffects.{after_begin_resolved, after_begin_words}
-use Rattle.mdcc_worlds.specs.Words.{IsGivenWord}
+use Rattle.mdcc_theorem_worlds.proofs.Drafting.{parts-formed}
+use Rattle.mdcc_theorem_worlds.proofs.Events.{begin-is}
+use Rattle.mdcc_theorem_worlds.specs.BeginEffects.{after_begin_resolved, after_begin_words}
+use Rattle.mdcc_theorem_worlds.specs.Words.{IsGivenWord}
 
 module _ (world : TheWorld) (w : World) (a : ℕ) (words : List UpdateWord) (like : IsLike world w) (up : is_up_at w a ≡ true) where
   reported : after_begin_words w a words ≡ after_begin_resolved w a (resolve words (map (λ (k : Known). Some k) w.reads))

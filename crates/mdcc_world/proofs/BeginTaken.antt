@@ -5,26 +5,26 @@ use Rattle.mdcc_node.specs.StepAnswers.{step_result}
 use Rattle.mdcc_option.specs.declared.cluster.Cluster.{Cluster}
 use Rattle.mdcc_option.specs.declared.faults.BeginFault.{BeginFault}
 use Rattle.mdcc_option.specs.declared.items.Part.{Part}
-use Rattle.mdcc_outcomes.specs.Represents.{RepresentsLedger}
-use Rattle.mdcc_outcomes.specs.declared.decisions.Decisions.{Decisions}
-use Rattle.mdcc_protocol.specs.Facts.{epoch_of}
-use Rattle.mdcc_ledger.specs.Ledger.{facts_of}
-use Rattle.mdcc_protocol.specs.Manager
-use Rattle.mdcc_rules.specs.ManagerRules.{begin_step, begin_step_by}
-use Rattle.mdcc_rules.specs.Steps.{NodeStep, step_given}
-use Rattle.mdcc_protocol.specs.Volatile.{Managing, Volatile}
-use Rattle.mdcc_simulation.specs.State.{World, centre_at, counted_event, next_message}
-use Rattle.mdcc_simulation.specs.Clients.{answer_in, begin_lines}
-use Rattle.mdcc_simulation.specs.AppliedSteps.{step_at}
-use Rattle.mdcc_messages.specs.declared.facts.Fact.{Fact}
-use Rattle.mdcc_rules.specs.declared.node.Answer.{Answer}
-use Rattle.mdcc_rules.specs.declared.node.Input.{Input}
-use Rattle.mdcc_rules.specs.declared.node.Step.{Step}
-use Rattle.mdcc_rules.specs.declared.node.StepFault.{StepFault}
+use Rattle.mdcc_world_decisions.specs.Represents.{RepresentsLedger}
+use Rattle.mdcc_world_decisions.specs.declared.decisions.Decisions.{Decisions}
+use Rattle.mdcc_def_protocol.specs.Facts.{epoch_of}
+use Rattle.mdcc_def_ledger.specs.Ledger.{facts_of}
+use Rattle.mdcc_def_protocol.specs.Manager
+use Rattle.mdcc_def_rules.specs.ManagerRules.{begin_step, begin_step_by}
+use Rattle.mdcc_def_rules.specs.Steps.{NodeStep, step_given}
+use Rattle.mdcc_def_protocol.specs.Volatile.{Managing, Volatile}
+use Rattle.mdcc_def_simulation.specs.State.{World, centre_at, counted_event, next_message}
+use Rattle.mdcc_def_simulation.specs.Clients.{answer_of_step, begin_lines}
+use Rattle.mdcc_def_simulation.specs.AppliedSteps.{step_at}
+use Rattle.mdcc_def_messages.specs.declared.facts.Fact.{Fact}
+use Rattle.mdcc_def_rules.specs.declared.node.Answer.{Answer}
+use Rattle.mdcc_def_rules.specs.declared.node.Input.{Input}
+use Rattle.mdcc_def_rules.specs.declared.node.Step.{Step}
+use Rattle.mdcc_def_rules.specs.declared.node.StepFault.{StepFault}
 use Rattle.mdcc_world.proofs.Took.{ok-given}
 use Rattle.mdcc_world.specs.Represents.{entries_of_step}
 use Rattle.mdcc_world.specs.Report.{begun_entries, begun_tx, lines_begun}
-use Rattle.mdcc_rules.specs.Here.{here}
+use Rattle.mdcc_def_rules.specs.Here.{here}
 
 -- a begin tells its entry by its answer
 entries-by : (cluster : Cluster) (me : ℕ) (facts : List Fact) (volatile : Volatile) (parts : List Part) (r : Result (TxId × Managing) BeginFault)
@@ -57,8 +57,8 @@ lines-are (Some (Answer.Begun tx)) w next e = rw e refl
 lines-are (Some (Answer.Refused key fault)) w next e = refl
 
 pub begin-line : (step : Step) (r : Result NodeStep StepFault) (w : World) (next : ℕ) → Ok step ≡ step_result r → next ≡ next_message w
-    → lines_begun step.answer next ≡ begin_lines (answer_in r) w
+    → lines_begun step.answer next ≡ begin_lines (answer_of_step r) w
 begin-line step r w next itself number =
     let gave = ok-given step r itself in
-    let answer : step.answer ≡ answer_in r = ap (λ (x : Step). x.answer) gave.2 ∙ ap (λ (x : Result NodeStep StepFault). answer_in x) (sym gave.1) in
+    let answer : step.answer ≡ answer_of_step r = ap (λ (x : Step). x.answer) gave.2 ∙ ap (λ (x : Result NodeStep StepFault). answer_of_step x) (sym gave.1) in
     lines-are step.answer w next number ∙ ap (λ (o : Option Answer). begin_lines o w) answer

@@ -4,28 +4,28 @@ use Rattle.std.proofs.lemmas.Bool.{and_parts}
 use Rattle.std.proofs.lemmas.List.{length-append, length-map, map-append}
 use Rattle.mdcc_base.specs.Key.{IsKey}
 use Rattle.mdcc_base.specs.declared.key.Key.{Key}
-use Rattle.mdcc_centre.specs.Nodes.{CentreStore}
+use Rattle.mdcc_node_log.specs.Nodes.{CentreStore}
 use Rattle.mdcc_node.specs.StepAnswers.{step_result}
 use Rattle.mdcc_node.specs.declared.node.Node.{Node}
 use Rattle.mdcc_option.specs.declared.items.Known.{Known}
-use Rattle.mdcc_outcomes.specs.Represents.{RepresentsLedger}
-use Rattle.mdcc_protocol.specs.Belongs.{is_centre}
-use Rattle.mdcc_ledger.specs.Ledger.{facts_of}
-use Rattle.mdcc_protocol.specs.Visible
-use Rattle.mdcc_simulation.specs.State.{World, centre_at, counted_event, is_up_at}
-use Rattle.mdcc_simulation.specs.AppliedSteps.{input_happened, step_at}
-use Rattle.mdcc_simulation.specs.Clients.{known_of_reading, read_happened}
-use Rattle.mdcc_language.specs.declared.lines.Line.{Line}
-use Rattle.mdcc_rules.specs.declared.node.Input.{Input}
-use Rattle.mdcc_rules.specs.declared.node.Step.{Step}
-use Rattle.mdcc_rules.specs.declared.node.StepFault.{StepFault}
-use Rattle.mdcc_steps.specs.NodeInvariant.{accept_length_in}
-use Rattle.mdcc_steps.specs.Inputs.{IsWellFormedInput}
+use Rattle.mdcc_world_decisions.specs.Represents.{RepresentsLedger}
+use Rattle.mdcc_def_protocol.specs.Belongs.{is_centre}
+use Rattle.mdcc_def_ledger.specs.Ledger.{facts_of}
+use Rattle.mdcc_def_protocol.specs.Visible
+use Rattle.mdcc_def_simulation.specs.State.{World, centre_at, counted_event, is_up_at}
+use Rattle.mdcc_def_simulation.specs.AppliedSteps.{input_happened, step_at}
+use Rattle.mdcc_def_simulation.specs.Clients.{known_of_reading, read_happened}
+use Rattle.mdcc_def_language.specs.declared.lines.Line.{Line}
+use Rattle.mdcc_def_rules.specs.declared.node.Input.{Input}
+use Rattle.mdcc_def_rules.specs.declared.node.Step.{Step}
+use Rattle.mdcc_def_rules.specs.declared.node.StepFault.{StepFault}
+use Rattle.mdcc_theorem_node_steps.specs.NodeInvariant.{accept_length_in}
+use Rattle.mdcc_theorem_node_steps.specs.Inputs.{IsWellFormedInput}
 use Rattle.mdcc_world.specs.NodeRuns.{HasRun}
 use Rattle.mdcc_world.specs.Nodes.{NodesRepresent}
 use Rattle.mdcc_world.specs.Represents.{HasHappened, IsLike, entries_of_step}
 use Rattle.mdcc_world.specs.declared.world.World.{World as TheWorld}
-use Rattle.mdcc_worlds.proofs.Stays.{counted-stays, read-stays, some-centre}
+use Rattle.mdcc_theorem_worlds.proofs.Stays.{counted-stays, read-stays, some-centre}
 
 -- a centre that is up is one of the cluster
 pub up-centre : (w : World) (a : ℕ) → is_up_at w a ≡ true → is_centre w.cluster a ≡ true

@@ -4,31 +4,31 @@ use Rattle.std.specs.Prelude.{set}
 use Rattle.std.proofs.lemmas.Bool.{cases_Bool, eqb-true, eq-eqb, le-ltb, lt-ltb}
 use Rattle.std.proofs.lemmas.List.{get_or-set_other, get_or-set_same, length-set}
 use Rattle.mdcc_base.specs.declared.outside.Image.{Image}
-use Rattle.mdcc_centre.specs.Nodes.{CentreStore, IsNodeOf, spare_of}
-use Rattle.mdcc_logs.proofs.Refusals.{log-payloads}
-use Rattle.mdcc_logs.specs.Represents.{LogsRepresent, with_fact_at, with_up}
-use Rattle.mdcc_logs.specs.Starting.{cells_with_boot}
-use Rattle.mdcc_logs.specs.Tails.{HasTail, tail_at}
-use Rattle.mdcc_logs.specs.declared.logs.Logs.{Logs}
+use Rattle.mdcc_node_log.specs.Nodes.{CentreStore, IsNodeOf, spare_cells_of}
+use Rattle.mdcc_world_logs.proofs.Refusals.{log-payloads}
+use Rattle.mdcc_world_logs.specs.Represents.{LogsRepresent, with_fact_at, with_up}
+use Rattle.mdcc_world_logs.specs.Starting.{cells_with_boot}
+use Rattle.mdcc_world_logs.specs.Tails.{HasTail, tail_at}
+use Rattle.mdcc_world_logs.specs.declared.logs.Logs.{Logs}
 use Rattle.mdcc_node.specs.declared.node.Node.{Node}
-use Rattle.mdcc_protocol.specs.Belongs.{is_centre}
-use Rattle.mdcc_protocol.proofs.Plain.{cells_plain}
-use Rattle.mdcc_protocol.specs.Cells.{cells_held}
-use Rattle.mdcc_protocol.specs.Facts.{epoch_of, has_floor}
-use Rattle.mdcc_ledger.specs.Ledger.{Added, facts_of}
-use Rattle.mdcc_messages.specs.Lengths.{cells_needed, cells_used, log_length}
+use Rattle.mdcc_def_protocol.specs.Belongs.{is_centre}
+use Rattle.mdcc_def_protocol.proofs.Plain.{cells_plain}
+use Rattle.mdcc_def_protocol.specs.Cells.{cells_held}
+use Rattle.mdcc_def_protocol.specs.Facts.{epoch_of, has_floor}
+use Rattle.mdcc_def_ledger.specs.Ledger.{Added, facts_of}
+use Rattle.mdcc_def_messages.specs.Lengths.{cells_needed, cells_used, log_length}
 use Rattle.mdcc_option.specs.declared.cluster.Cluster.{Cluster}
-use Rattle.mdcc_protocol.specs.Volatile.{Volatile, initial_volatile}
-use Rattle.mdcc_steps.proofs.Unfloored.{allowed-unfloored, within-plain}
-use Rattle.mdcc_simulation.specs.State.{Site, World, booted, centre_at, counted_event, down, is_up_at}
-use Rattle.mdcc_simulation.specs.Checkpoints.{tail_after}
-use Rattle.mdcc_simulation.specs.Centres.{crash_happened, restart_happened, stop_happened}
-use Rattle.mdcc_simulation.specs.Limits.{most_log}
-use Rattle.mdcc_messages.specs.declared.facts.Fact.{Fact}
-use Rattle.mdcc_language.specs.declared.lines.Line.{Line}
-use Rattle.mdcc_language.specs.declared.world.EventFault.{EventFault}
-use Rattle.mdcc_language.specs.declared.world.LimitName.{LimitName}
-use Rattle.mdcc_centre.specs.Logged.{AreLogged}
+use Rattle.mdcc_def_protocol.specs.Volatile.{Volatile, initial_volatile}
+use Rattle.mdcc_theorem_node_steps.proofs.Unfloored.{allowed-unfloored, within-plain}
+use Rattle.mdcc_def_simulation.specs.State.{SimulatedSite, World, booted, centre_at, counted_event, down, is_up_at}
+use Rattle.mdcc_def_simulation.specs.Checkpoints.{tail_after_append}
+use Rattle.mdcc_def_simulation.specs.Centres.{crash_happened, restart_happened, stop_happened}
+use Rattle.mdcc_def_simulation.specs.Limits.{most_log}
+use Rattle.mdcc_def_messages.specs.declared.facts.Fact.{Fact}
+use Rattle.mdcc_def_language.specs.declared.lines.Line.{Line}
+use Rattle.mdcc_def_language.specs.declared.world.EventFault.{EventFault}
+use Rattle.mdcc_def_language.specs.declared.world.LimitName.{LimitName}
+use Rattle.mdcc_node_log.specs.Logged.{AreLogged}
 use Rattle.mdcc_world.proofs.Counted.{up-centre}
 use Rattle.mdcc_world.proofs.NodesStay.{set-get}
 use Rattle.mdcc_world.proofs.Took.{booted-counted, logs-same}
@@ -36,15 +36,15 @@ use Rattle.mdcc_world.specs.Disks.{DisksShow}
 use Rattle.mdcc_world.specs.Nodes.{NodesRepresent, StopsRepresent, TailsRepresent, UpsRepresent}
 use Rattle.mdcc_world.specs.Represents.{HasHappened, Happens, IsLike}
 use Rattle.mdcc_world.specs.declared.world.World.{World as TheWorld}
-use Rattle.mdcc_worlds.proofs.Staying.{restarted-stays}
-use Rattle.mdcc_worlds.proofs.Stays.{counted-stays, crash-stays, each-put, site-other, site-same, some-centre, stop-stays}
-use Rattle.mdcc_worlds.specs.EventEffects.{restart_epoch, restarted}
-use Rattle.mdcc_worlds.specs.WorldInvariant.{IsWorld}
+use Rattle.mdcc_theorem_worlds.proofs.Staying.{restarted-stays}
+use Rattle.mdcc_theorem_worlds.proofs.Stays.{counted-stays, crash-stays, each-put, site-other, site-same, some-centre, stop-stays}
+use Rattle.mdcc_theorem_worlds.specs.EventEffects.{restart_epoch, restarted}
+use Rattle.mdcc_theorem_worlds.specs.WorldInvariant.{IsWorld}
 
 -- ---- sites
 
-module _ (w : World) (a : ℕ) (site : Site) (world : IsWorld w) (centre : is_centre w.cluster a ≡ true) where
-  sites : List Site
+module _ (w : World) (a : ℕ) (site : SimulatedSite) (world : IsWorld w) (centre : is_centre w.cluster a ≡ true) where
+  sites : List SimulatedSite
   sites = set w.centres (a - 1) site
 
   some : 1 ≤ a
@@ -70,7 +70,7 @@ module _ (w : World) (a : ℕ) (site : Site) (world : IsWorld w) (centre : is_ce
         let same : a ≡ b = omega (f, some, positive, arith) in
         let clash : true ≡ false = sym (eq-eqb a b same) ∙ e in
         absurd (cc)) in
-        there ∙ stand b positive few ∙ ap (λ (s : Site). is_centre w.cluster b && s.is_up) (sym (site-elsewhere b positive e))
+        there ∙ stand b positive few ∙ ap (λ (s : SimulatedSite). is_centre w.cluster b && s.is_up) (sym (site-elsewhere b positive e))
   ]
 
   -- where a stop is armed
@@ -81,14 +81,14 @@ module _ (w : World) (a : ℕ) (site : Site) (world : IsWorld w) (centre : is_ce
         let same : a ≡ b = eqb-true a b e in
         let at : get_or (set stops (a - 1) stop) (a - 1) None ≡ stop = get_or-set_same stops (a - 1) stop None (omega (some, many, arith)) in
         subst (λ (n : ℕ). get_or (set stops (a - 1) stop) (n - 1) None ≡ (get_or (set w.centres (a - 1) site) (n - 1) booted).stop) same
-        (at ∙ sym is ∙ ap (λ (s : Site). s.stop) (sym site-at))
+        (at ∙ sym is ∙ ap (λ (s : SimulatedSite). s.stop) (sym site-at))
     | inr e ↦
         let positive = (some-centre w.cluster b here).0 in
         let there : get_or (set stops (a - 1) stop) (b - 1) None ≡ get_or stops (b - 1) None = get_or-set_other stops (a - 1) (b - 1) stop None (λ f.
         let same : a ≡ b = omega (f, some, positive, arith) in
         let clash : true ≡ false = sym (eq-eqb a b same) ∙ e in
         absurd (cc)) in
-        there ∙ stand b here ∙ ap (λ (s : Site). s.stop) (sym (site-elsewhere b positive e))
+        there ∙ stand b here ∙ ap (λ (s : SimulatedSite). s.stop) (sym (site-elsewhere b positive e))
   ]
 
   -- how long the tails are
@@ -97,13 +97,13 @@ module _ (w : World) (a : ℕ) (site : Site) (world : IsWorld w) (centre : is_ce
   tails-set old new tail has is stand b here = elim (cases_Bool (a == b)) [
     | inl e ↦
         let same : a ≡ b = eqb-true a b e in
-        subst (λ (n : ℕ). tail_at new n ≡ (get_or (set w.centres (a - 1) site) (n - 1) booted).tail) same (has.here ∙ is ∙ ap (λ (s : Site). s.tail) (sym site-at))
+        subst (λ (n : ℕ). tail_at new n ≡ (get_or (set w.centres (a - 1) site) (n - 1) booted).tail) same (has.here ∙ is ∙ ap (λ (s : SimulatedSite). s.tail) (sym site-at))
     | inr e ↦
         let both = some-centre w.cluster b here in
         let nine = world.cluster_itself.quorums.nine_centres in
         let low : b ≤ 9 = omega (both.1, nine, arith) in
         let apart : b ≢ a = λ f. (let clash : true ≡ false = sym (eq-eqb a b (sym f)) ∙ e in absurd (cc)) in
-        has.others b low apart ∙ stand b here ∙ ap (λ (s : Site). s.tail) (sym (site-elsewhere b both.0 e))
+        has.others b low apart ∙ stand b here ∙ ap (λ (s : SimulatedSite). s.tail) (sym (site-elsewhere b both.0 e))
   ]
 
   -- which logs are open
@@ -113,7 +113,7 @@ module _ (w : World) (a : ℕ) (site : Site) (world : IsWorld w) (centre : is_ce
     | inl e ↦
         let same : a ≡ b = eqb-true a b e in
         rw e (subst (λ (n : ℕ). up ≡ (is_centre w.cluster n && (get_or (set w.centres (a - 1) site) (n - 1) booted).is_up)) same (rw (site-at, centre) (sym is)))
-    | inr e ↦ rw e (ap (λ (s : Site). is_centre w.cluster b && s.is_up) (sym (site-elsewhere b positive e)))
+    | inr e ↦ rw e (ap (λ (s : SimulatedSite). is_centre w.cluster b && s.is_up) (sym (site-elsewhere b positive e)))
   ]
 
 -- the logs are the same
@@ -140,15 +140,15 @@ crashed-nodes nodes w a world centre stand = record {
     | inl e ↦
         let same : a ≡ j + 1 = eqb-true a (j + 1) e in
         let here : get_or (set w.centres (a - 1) site) (j + 1 - 1) booted ≡ site = subst (λ (n : ℕ). get_or (set w.centres (a - 1) site) (n - 1) booted ≡ site) same (site-at w a site world centre) in
-        let bad : false ≡ true = ap (λ (s : Site). s.is_up) (sym here) ∙ up in
+        let bad : false ≡ true = ap (λ (s : SimulatedSite). s.is_up) (sym here) ∙ up in
         absurd (cc)
     | inr e ↦
         let there = site-elsewhere w a site world centre (j + 1) (omega arith) e in
-        rw there (stand.each j node at (ap (λ (s : Site). s.is_up) (sym there) ∙ up))
+        rw there (stand.each j node at (ap (λ (s : SimulatedSite). s.is_up) (sym there) ∙ up))
   ];
 }
   where
-    site : Site
+    site : SimulatedSite
     site = down (centre_at w a).tail
 
 pub has-crashed : (world new : TheWorld) (w : World) (a : ℕ) (before lines : List Line) → IsLike world w → is_up_at w a ≡ true
@@ -255,12 +255,12 @@ restarted-nodes nodes node w a epoch world centre stand is = record {
         let some = (some-centre w.cluster a centre).0 in
         let other = other-place a j some there.0 in
         let elsewhere = site-elsewhere w a site world centre (j + 1) (omega arith) other in
-        rw (other, elsewhere) (stand.each j x there.1 (ap (λ (s : Site). s.is_up) (sym elsewhere) ∙ up))
+        rw (other, elsewhere) (stand.each j x there.1 (ap (λ (s : SimulatedSite). s.is_up) (sym elsewhere) ∙ up))
   ];
 }
   where
-    site : Site
-    site = record booted { tail = tail_after (centre_at w a).tail }
+    site : SimulatedSite
+    site = record booted { tail = tail_after_append (centre_at w a).tail }
 
 -- its facts have no floor, so that each holds the cells that it needs
 unfloored : (w : World) (a : ℕ) → IsWorld w → is_centre w.cluster a ≡ true → has_floor (facts_of w.ledger a) ≡ false
@@ -297,7 +297,7 @@ module _ (w : World) (a : ℕ) (world : IsWorld w) (centre : is_centre w.cluster
 
 -- a node of these facts and the new boot has cells for them
 boot-fits : (node : Node CentreStore) (cluster : Cluster) (a epoch : ℕ) (facts : List Fact) → IsNodeOf node cluster a (Fact.Booted epoch ∷ facts) initial_volatile → cells_with_boot facts ≤ cluster.cells
-boot-fits node cluster a epoch facts is = let all = is.spare in least (spare_of node.store) (cells_used facts) cluster.cells all
+boot-fits node cluster a epoch facts is = let all = is.spare in least (spare_cells_of node.store) (cells_used facts) cluster.cells all
   where
     least : (spare used all : ℕ) → spare + (1 + used) ≡ all → used + 1 ≤ all
     least spare used all e = omega (e, arith)
@@ -314,11 +314,11 @@ pub has-restarted : (world new : TheWorld) (kept : Logs) (w : World) (a epoch : 
     → IsNodeOf node w.cluster a (Fact.Booted epoch ∷ facts_of w.ledger a) initial_volatile
     → LogsRepresent kept w.cluster.quorums.centres (with_up (is_up_at w) a true) (with_fact_at (facts_of w.ledger) a (Fact.Booted epoch))
     → nat_lt most_log (log_length (Fact.Booted epoch ∷ facts_of w.ledger a)) ≡ false
-    → HasTail world.logs kept a (tail_after (tail_at world.logs a))
+    → HasTail world.logs kept a (tail_after_append (tail_at world.logs a))
     → lines ≡ before ++ Line.Restart a epoch ∷ []
     → Happens {T = Unit {0}} new before lines (Ok tt) (restarted w a)
 has-restarted world new kept w a epoch node before lines like centre early many nine rest armed nodes same is logs room tail reported =
-    let site = record booted { tail = tail_after (centre_at w a).tail } in
+    let site = record booted { tail = tail_after_append (centre_at w a).tail } in
     let counted = counted-stays w like.records.itself in
     let few = like.records.few_reads in
     let standing : NodesRepresent world.nodes.items (counted_event w) = record { as_many = like.nodes.as_many; each = like.nodes.each } in
@@ -351,7 +351,7 @@ has-restarted world new kept w a epoch node before lines like centre early many 
         nodes = rw nodes (restarted-nodes world.nodes.items node (counted_event w) a epoch counted centre standing is);
         logs = rw (ap (λ (x : TheWorld). x.logs) rest) standing-logs;
         tails = rw (ap (λ (x : TheWorld). x.logs) rest)
-            (tails-set (counted_event w) a site counted centre world.logs kept (tail_after (tail_at world.logs a)) tail (ap tail_after (like.tails a centre)) like.tails);
+            (tails-set (counted_event w) a site counted centre world.logs kept (tail_after_append (tail_at world.logs a)) tail (ap tail_after_append (like.tails a centre)) like.tails);
       };
       lines = reported;
     })

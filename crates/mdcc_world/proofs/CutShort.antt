@@ -4,26 +4,26 @@ use Rattle.std.specs.Bool.{OnTrue}
 use Rattle.std.specs.Prelude.{OnErr, take}
 use Rattle.std.proofs.lemmas.Bool.{lt-leb}
 use Rattle.std.proofs.lemmas.List.{take_at}
-use Rattle.mdcc_language.specs.declared.events.Event.{Event}
-use Rattle.mdcc_language.specs.declared.lines.Line.{Line}
-use Rattle.mdcc_language.specs.declared.world.EventFault.{EventFault}
-use Rattle.mdcc_language.specs.declared.world.LimitName.{LimitName}
-use Rattle.mdcc_messages.specs.declared.messages.Envelope.{Envelope}
-use Rattle.mdcc_simulation.specs.Deliveries.{after_message, after_deliveries, after_delivery, first_waiting, settled_line, settled_of}
-use Rattle.mdcc_simulation.specs.Events.{after_event}
-use Rattle.mdcc_simulation.specs.Left.{deliveries_before, left_of, settled_before}
-use Rattle.mdcc_simulation.specs.Limits.{is_limit, is_past_events, most_events, within_events, is_out_of_memory}
-use Rattle.mdcc_simulation.specs.State.{Happened, World, after_lines, counted_event}
-use Rattle.mdcc_world.specs.CutShort.{IsCutShort, first_lines, lines_by, lines_of}
-use Rattle.mdcc_world.specs.Faults.{OnMemory}
+use Rattle.mdcc_def_language.specs.declared.events.Event.{Event}
+use Rattle.mdcc_def_language.specs.declared.lines.Line.{Line}
+use Rattle.mdcc_def_language.specs.declared.world.EventFault.{EventFault}
+use Rattle.mdcc_def_language.specs.declared.world.LimitName.{LimitName}
+use Rattle.mdcc_def_messages.specs.declared.messages.Envelope.{Envelope}
+use Rattle.mdcc_def_simulation.specs.Deliveries.{after_message, after_deliveries, after_delivery, first_waiting, settled_line, settled_of}
+use Rattle.mdcc_def_simulation.specs.Events.{after_event}
+use Rattle.mdcc_def_simulation.specs.Left.{deliveries_before, left_of, settled_before}
+use Rattle.mdcc_def_simulation.specs.Limits.{is_limit, is_past_events, most_events, within_events, is_out_of_memory}
+use Rattle.mdcc_def_simulation.specs.State.{Happened, World, after_lines, counted_event}
+use Rattle.mdcc_world.specs.CutShort.{IsCutShort, event_lines_of, first_lines, lines_by}
+use Rattle.mdcc_world.specs.Faults.{OnEventMemory}
 use Rattle.mdcc_world.specs.Limited.{lines_reported, unless_full}
 use Rattle.mdcc_world.specs.declared.world.World.{World as TheWorld}
-use Rattle.mdcc_worlds.proofs.Counts.{limit-open}
-use Rattle.mdcc_worlds.proofs.Delivers.{next-of, refused-of}
-use Rattle.mdcc_worlds.proofs.Events.{open-is}
-use Rattle.mdcc_worlds.specs.DeliveryProgress.{unmoved}
-use Rattle.mdcc_worlds.specs.EventEffects.{if_open}
-use Rattle.mdcc_worlds.specs.SettleProgress.{IsSettling, settle_reported, settle_ended, settle_from}
+use Rattle.mdcc_theorem_worlds.proofs.Counts.{limit-open}
+use Rattle.mdcc_theorem_worlds.proofs.Delivers.{next-of, refused-of}
+use Rattle.mdcc_theorem_worlds.proofs.Events.{open-is}
+use Rattle.mdcc_theorem_worlds.specs.DeliveryProgress.{unmoved}
+use Rattle.mdcc_theorem_worlds.specs.EventEffects.{if_open}
+use Rattle.mdcc_theorem_worlds.specs.SettleProgress.{IsSettling, settle_reported, settle_ended, settle_from}
 
 -- lines begin with these
 pub record BeginsWith (part whole : List Line) : Type 0 where
@@ -109,7 +109,7 @@ all-before (number ∷ numbers) h after e =
 -- all lines of a deliver line of which so much has happened
 deliver-whole : (w : World) (whole left : List ℕ) (reached : Happened) → after_deliveries whole (unmoved w) ≡ after_deliveries left reached
     → deliveries_before whole (unmoved w) ≡ deliveries_before left reached
-    → (r : Result Happened EventFault) → after_deliveries left reached ≡ r → BeginsWith reached.lines (lines_of w (Event.Deliver whole))
+    → (r : Result Happened EventFault) → after_deliveries left reached ≡ r → BeginsWith reached.lines (event_lines_of w (Event.Deliver whole))
 deliver-whole w whole left reached answer rest (Ok after) e =
     subst (λ (x : Result Happened EventFault). BeginsWith reached.lines (lines_by x (deliveries_before whole (unmoved w)).lines)) (sym (answer ∙ e)) (of-adds left reached after e)
 deliver-whole w whole left reached answer rest (Err fault) e =
@@ -235,7 +235,7 @@ within-limit w fault few = by_limit (is_limit fault) (is_past_events w) (lt-leb 
 
 settle-whole-by : (w : World) (listed : List ℕ) (reached : Happened) (deliveries : ℕ) → IsSettling w listed reached deliveries → w.events < most_events
     → settled_before (most_events - (counted_event w).events) listed (settle_reported w listed) ≡ settled_before (most_events - reached.world.events) listed reached
-    → (r : Result (Happened × ℕ) EventFault) → settle_from listed reached deliveries ≡ r → BeginsWith reached.lines (lines_of w (Event.Settle listed))
+    → (r : Result (Happened × ℕ) EventFault) → settle_from listed reached deliveries ≡ r → BeginsWith reached.lines (event_lines_of w (Event.Settle listed))
 settle-whole-by w listed reached deliveries so_far few earlier (Ok (after, count)) e =
     let line : after_event w (Event.Settle listed) ≡ Ok (settle_ended after count) =
     ap (λ (r : Result (Happened × ℕ) EventFault). within_events w (settled_line r)) (so_far.answer ∙ e)
@@ -253,12 +253,12 @@ settle-whole-by w listed reached deliveries so_far few earlier (Err fault) e =
 
 pub settle-whole : (w : World) (listed : List ℕ) (reached : Happened) (deliveries : ℕ) → IsSettling w listed reached deliveries → w.events < most_events
     → settled_before (most_events - (counted_event w).events) listed (settle_reported w listed) ≡ settled_before (most_events - reached.world.events) listed reached
-    → BeginsWith reached.lines (lines_of w (Event.Settle listed))
+    → BeginsWith reached.lines (event_lines_of w (Event.Settle listed))
 settle-whole w listed reached deliveries so_far few earlier = settle-whole-by w listed reached deliveries so_far few earlier (settle_from listed reached deliveries) refl
 
 -- no memory after so many deliveries
 pub settle-cut : (world : TheWorld) (before after : List Line) (w : World) (listed : List ℕ) (reached : Happened) (deliveries : ℕ)
-    → settled_before deliveries listed (settle_reported w listed) ≡ reached → BeginsWith reached.lines (lines_of w (Event.Settle listed))
+    → settled_before deliveries listed (settle_reported w listed) ≡ reached → BeginsWith reached.lines (event_lines_of w (Event.Settle listed))
     → world.events ≤ w.events + deliveries + 2 → after ≡ before ++ reached.lines
     → IsCutShort world before after w (Event.Settle listed)
 settle-cut world before after w listed reached deliveries first begins counted put = record {
@@ -277,8 +277,8 @@ cut-none world before after w event none same = record {
   count = world.events;
   counted = omega arith;
   lines = same ∙ sym (append-nil before) ∙ ap (λ (lines : List Line). before ++ lines) (sym (none world.events));
-  rest = lines_of w event;
-  whole = ap (λ (lines : List Line). lines ++ lines_of w event) (sym (none world.events));
+  rest = event_lines_of w event;
+  whole = ap (λ (lines : List Line). lines ++ event_lines_of w event) (sym (none world.events));
 }
 
 pub cut-first : (world : TheWorld) (before after : List Line) (w : World) (listed : List ℕ) → world.events ≤ w.events + 1 → after ≡ before
@@ -287,7 +287,7 @@ cut-first world before after w listed counted same = record {
   count = 0;
   counted = omega (counted, arith);
   lines = same ∙ sym (append-nil before);
-  rest = lines_of w (Event.Settle listed);
+  rest = event_lines_of w (Event.Settle listed);
   whole = refl;
 }
 
@@ -300,10 +300,10 @@ always false p = tt
 pub memory-always : (fault : EventFault) {P : Type 0} → P → OnTrue (is_out_of_memory fault) P
 memory-always fault p = always (is_out_of_memory fault) p
 
-pub memory-any : {T : Type 0} (r : Result T EventFault) {P : Type 0} → P → OnMemory r P
+pub memory-any : {T : Type 0} (r : Result T EventFault) {P : Type 0} → P → OnEventMemory r P
 memory-any (Ok x) p = tt
 memory-any (Err fault) p = memory-always fault p
 
-pub memory-untold : {T : Type 0} (r : Result T EventFault) {P Q : Type 0} → (P → Q) → OnErr r P → OnMemory r Q
+pub memory-untold : {T : Type 0} (r : Result T EventFault) {P Q : Type 0} → (P → Q) → OnErr r P → OnEventMemory r Q
 memory-untold (Ok x) f p = tt
 memory-untold (Err fault) f p = memory-always fault (f p)

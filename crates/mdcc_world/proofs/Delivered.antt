@@ -2,29 +2,29 @@
 use Rattle.std.proofs.Common.{◌≡◌, ℕ, zero, suc, ◌+◌, ◌-◌, ◌≤◌, Bool, true, false, List, refl, sym, ap, ◌∙◌, subst, inl, inr, Option, Some, None, Result, Ok, Err, arith, length}
 use Rattle.std.specs.Option.{option_map}
 use Rattle.std.proofs.lemmas.Bool.{cases_Bool}
-use Rattle.mdcc_mail.specs.StoredMessages.{envelope_if_read}
+use Rattle.mdcc_world_mail.specs.StoredMessages.{envelope_if_read}
 use Rattle.mdcc_node.specs.StepAnswers.{step_result}
-use Rattle.mdcc_messages.specs.WellFormed.{IsWellFormedEnvelope}
-use Rattle.mdcc_messages.specs.Mailbox.{Sent, numbered, with_delivered}
-use Rattle.mdcc_simulation.specs.State.{World, is_up_at}
-use Rattle.mdcc_simulation.specs.AppliedSteps.{input_happened, step_at}
-use Rattle.mdcc_messages.specs.declared.messages.Envelope.{Envelope}
-use Rattle.mdcc_rules.specs.declared.node.Input.{Input}
-use Rattle.mdcc_rules.specs.declared.node.Step.{Step}
-use Rattle.mdcc_rules.specs.declared.node.StepFault.{StepFault}
-use Rattle.mdcc_language.specs.declared.world.EventFault.{EventFault}
+use Rattle.mdcc_def_messages.specs.WellFormed.{IsWellFormedEnvelope}
+use Rattle.mdcc_def_messages.specs.Mailbox.{Sent, numbered, with_delivered}
+use Rattle.mdcc_def_simulation.specs.State.{World, is_up_at}
+use Rattle.mdcc_def_simulation.specs.AppliedSteps.{input_happened, step_at}
+use Rattle.mdcc_def_messages.specs.declared.messages.Envelope.{Envelope}
+use Rattle.mdcc_def_rules.specs.declared.node.Input.{Input}
+use Rattle.mdcc_def_rules.specs.declared.node.Step.{Step}
+use Rattle.mdcc_def_rules.specs.declared.node.StepFault.{StepFault}
+use Rattle.mdcc_def_language.specs.declared.world.EventFault.{EventFault}
 use Rattle.mdcc_world.proofs.Counted.{up-centre, up-within}
 use Rattle.mdcc_world.proofs.Took.{input-counted}
 use Rattle.mdcc_world.specs.NodeRuns.{HasRun, HasRunMessage}
 use Rattle.mdcc_world.specs.Nodes.{NodesRepresent}
 use Rattle.mdcc_world.specs.Represents.{IsLike}
 use Rattle.mdcc_world.specs.declared.world.World.{World as TheWorld}
-use Rattle.mdcc_steps.specs.NodeInvariant.{accept_length}
-use Rattle.mdcc_worlds.proofs.Numbers.{each-numbered}
-use Rattle.mdcc_worlds.proofs.Stays.{delivered-stays, some-centre}
-use Rattle.mdcc_worlds.specs.DeliveryProgress.{at_message, after_sent_message, message_by, message_counted}
-use Rattle.mdcc_worlds.specs.EventEffects.{at_centre}
-use Rattle.mdcc_worlds.specs.WorldInvariant.{IsSentWithin, IsWorld}
+use Rattle.mdcc_theorem_node_steps.specs.NodeInvariant.{accept_length}
+use Rattle.mdcc_theorem_worlds.proofs.Numbers.{each-numbered}
+use Rattle.mdcc_theorem_worlds.proofs.Stays.{delivered-stays, some-centre}
+use Rattle.mdcc_theorem_worlds.specs.DeliveryProgress.{at_message, after_sent_message, message_by, message_counted}
+use Rattle.mdcc_theorem_worlds.specs.EventEffects.{at_centre}
+use Rattle.mdcc_theorem_worlds.specs.WorldInvariant.{IsSentWithin, IsWorld}
 
 -- the message that was sent under a number, to a centre that is up
 pub record IsSentAs (w : World) (number : ℕ) (envelope : Envelope) : Type 0 where

@@ -1,13 +1,13 @@
 -- A deliver line, number by number.
 use Rattle.std.proofs.Common.{◌≡◌, ℕ, ◌+◌, ◌≤◌, ◌∷◌, [], ◌||◌, ◌++◌, ◌∙◌, Bool, true, false, List, Ok, Err, ap, append_assoc, arith, length, length-append, refl, sym, subst, append-nil}
 use Rattle.std.specs.Bool.{OnFalse, OnTrue}
-use Rattle.mdcc_simulation.specs.State.{Happened, World, after_lines}
-use Rattle.mdcc_simulation.specs.Left.{deliveries_before}
-use Rattle.mdcc_simulation.specs.Deliveries.{after_deliveries, after_delivery}
-use Rattle.mdcc_simulation.specs.Limits.{is_limit, is_out_of_memory}
-use Rattle.mdcc_language.specs.declared.events.Event.{Event}
-use Rattle.mdcc_language.specs.declared.lines.Line.{Line}
-use Rattle.mdcc_language.specs.declared.world.EventFault.{EventFault}
+use Rattle.mdcc_def_simulation.specs.State.{Happened, World, after_lines}
+use Rattle.mdcc_def_simulation.specs.Left.{deliveries_before}
+use Rattle.mdcc_def_simulation.specs.Deliveries.{after_deliveries, after_delivery}
+use Rattle.mdcc_def_simulation.specs.Limits.{is_limit, is_out_of_memory}
+use Rattle.mdcc_def_language.specs.declared.events.Event.{Event}
+use Rattle.mdcc_def_language.specs.declared.lines.Line.{Line}
+use Rattle.mdcc_def_language.specs.declared.world.EventFault.{EventFault}
 use Rattle.mdcc_world.proofs.CutShort.{deliver-cut, of-last}
 use Rattle.mdcc_world.proofs.Happened.{fault-then, happened-then, has-come}
 use Rattle.mdcc_world.proofs.Limited.{limit-with}
@@ -15,8 +15,8 @@ use Rattle.mdcc_world.specs.CutShort.{IsCutShort}
 use Rattle.mdcc_world.specs.Faults.{OnRefusal}
 use Rattle.mdcc_world.specs.Represents.{HasHappened, Happens, IsLike}
 use Rattle.mdcc_world.specs.declared.world.World.{World as TheWorld}
-use Rattle.mdcc_worlds.proofs.Delivers.{delivering-begins, delivering-goes_on, delivering-refused}
-use Rattle.mdcc_worlds.specs.DeliveryProgress.{IsDelivering, unmoved}
+use Rattle.mdcc_theorem_worlds.proofs.Delivers.{delivering-begins, delivering-goes_on, delivering-refused}
+use Rattle.mdcc_theorem_worlds.specs.DeliveryProgress.{IsDelivering, unmoved}
 
 -- the world stands for what a deliver line has brought where these numbers are left
 pub record HasDelivered (world : TheWorld) (before after : List Line) (w : World) (whole left : List ℕ) : Type 0 where

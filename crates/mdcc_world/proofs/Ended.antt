@@ -4,10 +4,10 @@ use Rattle.std.specs.Prelude.{is_some, option_map}
 use Rattle.mdcc_base.specs.Counts.{number_of}
 use Rattle.mdcc_base.specs.Sizes.{Sizes}
 use Rattle.mdcc_option.specs.declared.choices.Outcome.{Outcome}
-use Rattle.mdcc_outcomes.specs.Decided.{decided_of, is_abort_decided, is_commit_decided, totals_of}
-use Rattle.mdcc_ledger.specs.Ledger.{Entry, outcome_of, txs_begun}
-use Rattle.mdcc_protocol.specs.Marks.{is_abort, is_commit}
-use Rattle.mdcc_simulation.specs.Runs.{is_commit_found}
+use Rattle.mdcc_world_decisions.specs.Decided.{decided_of, is_abort_decided, is_commit_decided, totals_of}
+use Rattle.mdcc_def_ledger.specs.Ledger.{Entry, outcome_of, txs_begun}
+use Rattle.mdcc_def_protocol.specs.Marks.{is_abort, is_commit}
+use Rattle.mdcc_def_simulation.specs.Runs.{is_commit_found}
 
 counted-by : {X Y : Type 0} (f : Y → Bool) (g : X → Y) (h : X → Bool) (xs : List X) → ((x : X) → f (g x) ≡ h x) → number_of f (map g xs) ≡ number_of h xs
 counted-by f g h [] same = refl

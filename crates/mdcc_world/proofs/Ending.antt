@@ -2,12 +2,12 @@
 use Rattle.std.proofs.Common.{◌≡◌, ◌≤◌, ◌++◌, List, Result, Ok, Err, arith}
 use Rattle.std.specs.Bool.{OnFalse}
 use Rattle.std.specs.Prelude.{IfErr, IsOkAnd, OnOk}
-use Rattle.mdcc_simulation.specs.State.{Happened}
-use Rattle.mdcc_language.specs.declared.lines.Line.{Line}
-use Rattle.mdcc_language.specs.declared.world.EventFault.{EventFault}
+use Rattle.mdcc_def_simulation.specs.State.{Happened}
+use Rattle.mdcc_def_language.specs.declared.lines.Line.{Line}
+use Rattle.mdcc_def_language.specs.declared.world.EventFault.{EventFault}
 use Rattle.mdcc_world.specs.Represents.{Happens, RepresentsWorld}
 use Rattle.mdcc_world.specs.declared.world.World.{World as TheWorld}
-use Rattle.mdcc_simulation.specs.Limits.{is_out_of_memory}
+use Rattle.mdcc_def_simulation.specs.Limits.{is_out_of_memory}
 
 pub happened-ok : (result : Result (Unit {0}) EventFault) (expected : Result Happened EventFault) (world : TheWorld) (before after : List Line)
     → Happens world before after result expected → OnOk result (world.events ≤ 100000)

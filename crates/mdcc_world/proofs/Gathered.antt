@@ -1,8 +1,8 @@
 -- Lines that were gathered first, and then put after others.
 use Rattle.std.proofs.Common.{◌≡◌, ◌++◌, [], List, Result, Ok, Err, ap, ◌∙◌}
-use Rattle.mdcc_language.specs.declared.lines.Line.{Line}
-use Rattle.mdcc_language.specs.declared.world.EventFault.{EventFault}
-use Rattle.mdcc_simulation.specs.State.{Happened}
+use Rattle.mdcc_def_language.specs.declared.lines.Line.{Line}
+use Rattle.mdcc_def_language.specs.declared.world.EventFault.{EventFault}
+use Rattle.mdcc_def_simulation.specs.State.{Happened}
 use Rattle.mdcc_world.specs.Represents.{Happens, HasHappened}
 use Rattle.mdcc_world.specs.declared.world.World.{World as TheWorld}
 

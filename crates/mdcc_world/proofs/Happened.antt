@@ -2,16 +2,16 @@
 use Rattle.std.proofs.Common.{◌≡◌, ℕ, ◌+◌, length, ◌++◌, [], Bool, true, false, List, Option, Some, None, Result, Ok, Err, arith, refl, sym, ap, ◌∙◌, subst, append_assoc}
 use Rattle.std.specs.Bool.{OnFalse}
 use Rattle.std.specs.Prelude.{IfErr, IsErrAnd, OnOk}
-use Rattle.mdcc_simulation.specs.State.{Happened, World, after_lines, counted_event, next_message}
-use Rattle.mdcc_messages.specs.Mailbox.{Sent}
-use Rattle.mdcc_simulation.specs.Limits.{unless_limit, with_lines, is_out_of_memory}
-use Rattle.mdcc_language.specs.declared.lines.Line.{Line}
-use Rattle.mdcc_language.specs.declared.world.EventFault.{EventFault}
+use Rattle.mdcc_def_simulation.specs.State.{Happened, World, after_lines, counted_event, next_message}
+use Rattle.mdcc_def_messages.specs.Mailbox.{Sent}
+use Rattle.mdcc_def_simulation.specs.Limits.{unless_limit, with_lines, is_out_of_memory}
+use Rattle.mdcc_def_language.specs.declared.lines.Line.{Line}
+use Rattle.mdcc_def_language.specs.declared.world.EventFault.{EventFault}
 use Rattle.mdcc_world.specs.Faults.{OnRefusal, is_free}
 use Rattle.mdcc_world.specs.Represents.{HasHappened, Happens, IsLike}
 use Rattle.mdcc_world.specs.declared.world.World.{World as TheWorld}
-use Rattle.mdcc_worlds.proofs.Stays.{counted-stays}
-use Rattle.mdcc_worlds.specs.EventEffects.{if_open}
+use Rattle.mdcc_theorem_worlds.proofs.Stays.{counted-stays}
+use Rattle.mdcc_theorem_worlds.specs.EventEffects.{if_open}
 
 pub happened-then : (first second : TheWorld) (before mid after : List Line) (h k : Happened)
     → HasHappened first before mid h → HasHappened second mid after k → HasHappened second before after (after_lines h.lines k)

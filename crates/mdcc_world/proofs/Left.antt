@@ -1,14 +1,14 @@
 -- What stands after a refusal.
 use Rattle.std.proofs.Common.{◌≡◌, ◌≤◌, Bool, true, false, List, Result, Ok, Err, arith, append-nil, subst, sym, ◌∙◌}
 use Rattle.std.specs.Bool.{OnFalse}
-use Rattle.mdcc_simulation.specs.State.{Happened, World}
-use Rattle.mdcc_language.specs.declared.lines.Line.{Line}
-use Rattle.mdcc_language.specs.declared.world.EventFault.{EventFault}
+use Rattle.mdcc_def_simulation.specs.State.{Happened, World}
+use Rattle.mdcc_def_language.specs.declared.lines.Line.{Line}
+use Rattle.mdcc_def_language.specs.declared.world.EventFault.{EventFault}
 use Rattle.mdcc_world.proofs.Happened.{any-fault}
 use Rattle.mdcc_world.specs.Faults.{OnRefusal, is_free}
 use Rattle.mdcc_world.specs.Represents.{HasHappened, IsLike, RepresentsWorld}
 use Rattle.mdcc_world.specs.declared.world.World.{World as TheWorld}
-use Rattle.mdcc_worlds.specs.DeliveryProgress.{unmoved}
+use Rattle.mdcc_theorem_worlds.specs.DeliveryProgress.{unmoved}
 
 -- ---- what follows from what stands
 

@@ -2,9 +2,9 @@
 use Rattle.std.proofs.Common.{◌≡◌, ◌++◌, [], Bool, true, false, List, Result, Ok, Err, append-nil, sym, ◌∙◌}
 use Rattle.std.specs.Prelude.{OnErr}
 use Rattle.std.specs.Bool.{OnFalse, OnTrue}
-use Rattle.mdcc_simulation.specs.Limits.{is_limit, is_out_of_memory}
-use Rattle.mdcc_language.specs.declared.lines.Line.{Line}
-use Rattle.mdcc_language.specs.declared.world.EventFault.{EventFault}
+use Rattle.mdcc_def_simulation.specs.Limits.{is_limit, is_out_of_memory}
+use Rattle.mdcc_def_language.specs.declared.lines.Line.{Line}
+use Rattle.mdcc_def_language.specs.declared.world.EventFault.{EventFault}
 use Rattle.mdcc_world.specs.Limited.{OnLimit}
 
 -- a limit is no want of memory

@@ -1,30 +1,30 @@
 -- The limits that a step is asked for.
 use Rattle.std.proofs.Common.{◌≡◌, ℕ, ◌≤◌, Bool, true, false, List, ◌∷◌, refl, sym, ap, ◌∙◌, subst, Option, Some, None, Result, Ok, Err, arith, length, nat_lt}
 use Rattle.std.specs.Option.{option_or}
-use Rattle.mdcc_logs.specs.Represents.{LogsRepresent}
-use Rattle.mdcc_protocol.specs.Belongs.{is_centre}
-use Rattle.mdcc_ledger.specs.Ledger.{facts_of}
-use Rattle.mdcc_messages.specs.Lengths.{fact_length, log_length}
-use Rattle.mdcc_messages.specs.WellFormed.{IsWellFormedEnvelope, IsWellFormedFact}
-use Rattle.mdcc_simulation.specs.State.{World, centre_at, is_up_at}
-use Rattle.mdcc_simulation.specs.Limits.{passed_log_limit, most_log}
-use Rattle.mdcc_simulation.specs.AppliedSteps.{step_at}
-use Rattle.mdcc_rules.specs.Steps.{NodeStep, step_given}
-use Rattle.mdcc_messages.specs.declared.facts.Fact.{Fact}
-use Rattle.mdcc_messages.specs.declared.messages.Envelope.{Envelope}
-use Rattle.mdcc_rules.specs.declared.node.Input.{Input}
-use Rattle.mdcc_rules.specs.declared.node.Step.{Step}
-use Rattle.mdcc_language.specs.declared.world.EventFault.{EventFault}
-use Rattle.mdcc_language.specs.declared.world.LimitName.{LimitName}
+use Rattle.mdcc_world_logs.specs.Represents.{LogsRepresent}
+use Rattle.mdcc_def_protocol.specs.Belongs.{is_centre}
+use Rattle.mdcc_def_ledger.specs.Ledger.{facts_of}
+use Rattle.mdcc_def_messages.specs.Lengths.{fact_length, log_length}
+use Rattle.mdcc_def_messages.specs.WellFormed.{IsWellFormedEnvelope, IsWellFormedFact}
+use Rattle.mdcc_def_simulation.specs.State.{World, centre_at, is_up_at}
+use Rattle.mdcc_def_simulation.specs.Limits.{passed_log_limit, most_log}
+use Rattle.mdcc_def_simulation.specs.AppliedSteps.{step_at}
+use Rattle.mdcc_def_rules.specs.Steps.{NodeStep, step_given}
+use Rattle.mdcc_def_messages.specs.declared.facts.Fact.{Fact}
+use Rattle.mdcc_def_messages.specs.declared.messages.Envelope.{Envelope}
+use Rattle.mdcc_def_rules.specs.declared.node.Input.{Input}
+use Rattle.mdcc_def_rules.specs.declared.node.Step.{Step}
+use Rattle.mdcc_def_language.specs.declared.world.EventFault.{EventFault}
+use Rattle.mdcc_def_language.specs.declared.world.LimitName.{LimitName}
 use Rattle.std.specs.List.{AllByRecursion}
-use Rattle.mdcc_steps.proofs.Dispatched.{fact-formed, sends-formed}
-use Rattle.mdcc_steps.proofs.Shortness.{fact-short}
+use Rattle.mdcc_theorem_node_steps.proofs.Dispatched.{fact-formed, sends-formed}
+use Rattle.mdcc_theorem_node_steps.proofs.Shortness.{fact-short}
 use Rattle.mdcc_world.proofs.Happened.{clear, may_be}
 use Rattle.mdcc_world.proofs.Took.{ok-given}
 use Rattle.mdcc_world.specs.StepOutputs.{IsFormed, IsFramed, MayAppendFact, Measures}
 use Rattle.mdcc_world.specs.NodeRuns.{HasRun}
 use Rattle.mdcc_world.specs.declared.world.World.{World as TheWorld}
-use Rattle.mdcc_worlds.proofs.Stays.{log-few, some-centre}
+use Rattle.mdcc_theorem_worlds.proofs.Stays.{log-few, some-centre}
 
 -- ---- the log
 

@@ -2,13 +2,13 @@
 use Rattle.std.proofs.Common.{◌≡◌, ℕ, ◌-◌, ◌==◌, ◌&&◌, ◌≤◌, Bool, true, false, List, refl, ap, ◌∙◌, inl, inr, arith, get_or, nat_le}
 use Rattle.std.specs.List.{list_any}
 use Rattle.std.proofs.lemmas.Bool.{and_parts, cases_Bool, le-leb, leb-true}
-use Rattle.mdcc_protocol.specs.Belongs.{is_centre}
-use Rattle.mdcc_simulation.specs.State.{World, centre_at, is_up_at}
+use Rattle.mdcc_def_protocol.specs.Belongs.{is_centre}
+use Rattle.mdcc_def_simulation.specs.State.{World, centre_at, is_up_at}
 use Rattle.mdcc_world.specs.Nodes.{UpsRepresent}
 use Rattle.mdcc_world.specs.SettleEnd.{AreAsked, is_listed_centre}
 use Rattle.mdcc_world.specs.Represents.{IsLike}
 use Rattle.mdcc_world.specs.declared.world.World.{World as TheWorld}
-use Rattle.mdcc_worlds.proofs.Stays.{some-centre}
+use Rattle.mdcc_theorem_worlds.proofs.Stays.{some-centre}
 
 -- whether a centre is among the first so many, and is up and named
 abbrev pub asked_to : List Bool → ℕ → List ℕ → ℕ → Bool

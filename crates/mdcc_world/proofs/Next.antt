@@ -4,12 +4,12 @@ use Rattle.std.specs.Prelude.{nat_lt, slice_get}
 use Rattle.std.specs.Option.{option_map}
 use Rattle.std.proofs.lemmas.Bool.{cases_Bool, ltb-false}
 use Rattle.std.proofs.Math.Numerals.{add-one}
-use Rattle.mdcc_mail.proofs.Firsts.{numbered_at, past}
-use Rattle.mdcc_mail.specs.Waiting.{before_first, first_to, waiting_number_at, waits_among}
-use Rattle.mdcc_messages.specs.Mailbox.{Sent, numbered}
-use Rattle.mdcc_simulation.specs.State.{World}
-use Rattle.mdcc_simulation.specs.Deliveries.{first_waiting, is_waiting_for}
-use Rattle.mdcc_messages.specs.declared.messages.Envelope.{Envelope}
+use Rattle.mdcc_world_mail.proofs.Firsts.{numbered_at, past}
+use Rattle.mdcc_world_mail.specs.Waiting.{before_first, first_to, waiting_number_at, waits_among}
+use Rattle.mdcc_def_messages.specs.Mailbox.{Sent, numbered}
+use Rattle.mdcc_def_simulation.specs.State.{World}
+use Rattle.mdcc_def_simulation.specs.Deliveries.{first_waiting, is_waiting_for}
+use Rattle.mdcc_def_messages.specs.declared.messages.Envelope.{Envelope}
 use Rattle.mdcc_world.specs.SettleEnd.{AreAsked}
 
 -- a message with its number

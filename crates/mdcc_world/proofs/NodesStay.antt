@@ -9,34 +9,34 @@ use Rattle.mdcc_base.specs.Unless.{GivesUnless}
 use Rattle.mdcc_base.specs.declared.faults.Memory.{Memory}
 use Rattle.mdcc_base.specs.declared.key.Key.{Key}
 use Rattle.mdcc_base.specs.declared.outside.Image.{Image}
-use Rattle.mdcc_node.specs.StepPlans.{written}
+use Rattle.mdcc_node.specs.StepPlans.{unless_refused}
 use Rattle.mdcc_node.specs.NodeHistory.{IsRunning}
 use Rattle.mdcc_node.specs.StepAnswers.{UnlessMemory, facts_left, is_step_memory, volatile_left}
 use Rattle.mdcc_node.specs.declared.node.Node.{Node}
 use Rattle.mdcc_option.specs.declared.cluster.Cluster.{Cluster}
-use Rattle.mdcc_protocol.specs.Belongs.{is_centre}
-use Rattle.mdcc_protocol.specs.Volatile.{Volatile}
-use Rattle.mdcc_ledger.specs.Ledger.{facts_of}
-use Rattle.mdcc_rules.specs.Steps.{NodeStep, with_new}
-use Rattle.mdcc_simulation.specs.State.{Happened, Site, World, booted, centre_at, down, first_world, is_up_at, with_centre}
-use Rattle.mdcc_simulation.specs.AppliedSteps.{input_happened, step_at, step_happened_by, step_stopped}
-use Rattle.mdcc_messages.specs.declared.facts.Fact.{Fact}
-use Rattle.mdcc_protocol.specs.declared.visible.Reading.{Reading}
-use Rattle.mdcc_rules.specs.declared.node.Answer.{Answer}
-use Rattle.mdcc_rules.specs.declared.node.Input.{Input}
-use Rattle.mdcc_rules.specs.declared.node.Step.{Step}
-use Rattle.mdcc_rules.specs.declared.node.StepFault.{StepFault}
-use Rattle.mdcc_steps.specs.Inputs.{IsWellFormedInput}
-use Rattle.mdcc_worlds.proofs.Begins.{first-facts, first-site}
-use Rattle.mdcc_worlds.proofs.Stays.{by-none, by-some, each-put, facts-here, facts-there, facts-with, refused-same, site-here, site-other, site-same, site-there}
-use Rattle.mdcc_worlds.proofs.Within.{made-stays}
-use Rattle.mdcc_logs.specs.Nodes.{AreStarted}
-use Rattle.mdcc_centre.specs.Nodes.{CentreStore, IsNodeOf, are_stored}
+use Rattle.mdcc_def_protocol.specs.Belongs.{is_centre}
+use Rattle.mdcc_def_protocol.specs.Volatile.{Volatile}
+use Rattle.mdcc_def_ledger.specs.Ledger.{facts_of}
+use Rattle.mdcc_def_rules.specs.Steps.{NodeStep, with_new}
+use Rattle.mdcc_def_simulation.specs.State.{Happened, SimulatedSite, World, booted, centre_at, down, first_world, is_up_at, with_centre}
+use Rattle.mdcc_def_simulation.specs.AppliedSteps.{input_happened, step_at, step_happened_by, step_stopped}
+use Rattle.mdcc_def_messages.specs.declared.facts.Fact.{Fact}
+use Rattle.mdcc_def_protocol.specs.declared.visible.Reading.{Reading}
+use Rattle.mdcc_def_rules.specs.declared.node.Answer.{Answer}
+use Rattle.mdcc_def_rules.specs.declared.node.Input.{Input}
+use Rattle.mdcc_def_rules.specs.declared.node.Step.{Step}
+use Rattle.mdcc_def_rules.specs.declared.node.StepFault.{StepFault}
+use Rattle.mdcc_theorem_node_steps.specs.Inputs.{IsWellFormedInput}
+use Rattle.mdcc_theorem_worlds.proofs.Begins.{first-facts, first-site}
+use Rattle.mdcc_theorem_worlds.proofs.Stays.{by-none, by-some, each-put, facts-here, facts-there, facts-with, refused-same, site-here, site-other, site-same, site-there}
+use Rattle.mdcc_theorem_worlds.proofs.Within.{made-stays}
+use Rattle.mdcc_world_logs.specs.Nodes.{AreStarted}
+use Rattle.mdcc_node_log.specs.Nodes.{CentreStore, IsNodeOf, are_stored}
 use Rattle.mdcc_world.specs.Nodes.{NodesRepresent, RunsAt, is_memory_run}
-use Rattle.mdcc_worlds.specs.StepSends.{StaysWithin}
-use Rattle.mdcc_worlds.specs.WorldInvariant.{IsWorld}
-use Rattle.mdcc_worlds.specs.StepEffects.{ledger_with_fact, world_after_step}
-use Rattle.mdcc_simulation.specs.Checkpoints.{is_frame_kept, striking_at}
+use Rattle.mdcc_theorem_worlds.specs.StepSends.{StaysWithin}
+use Rattle.mdcc_theorem_worlds.specs.WorldInvariant.{IsWorld}
+use Rattle.mdcc_theorem_worlds.specs.StepEffects.{ledger_with_fact, world_after_step}
+use Rattle.mdcc_def_simulation.specs.Checkpoints.{is_frame_kept, striking_at}
 
 -- ---- places
 
@@ -112,7 +112,7 @@ module _ (nodes : List (Node CentreStore)) (w : World) (place : ℕ) (node : Nod
       | inr there ↦
           let other = other-next place j there.0 in
           let site = site-there w (place + 1) step world centre-here stays (j + 1) (omega arith) other in
-          let was : (centre_at w (j + 1)).is_up ≡ true = ap (λ (s : Site). s.is_up) (sym site) ∙ up in
+          let was : (centre_at w (j + 1)).is_up ≡ true = ap (λ (s : SimulatedSite). s.is_up) (sym site) ∙ up in
           rw (facts-there w (place + 1) step world centre-here stays (j + 1) other, site)
           (standing.each j x there.1 was)
     ];
@@ -128,13 +128,13 @@ module _ (nodes : List (Node CentreStore)) (w : World) (place : ℕ) (node : Nod
           let here_down : get_or (set w.centres (place + 1 - 1) (down tail)) (place + 1 - 1) booted ≡ down tail = site-same w.centres (place + 1) (down tail) (omega arith) few in
           let there : (get_or (set w.centres (place + 1 - 1) (down tail)) (place + 1 - 1) booted).is_up ≡ true =
           subst (λ (n : ℕ). (get_or (set w.centres (place + 1 - 1) (down tail)) (n + 1 - 1) booted).is_up ≡ true) here.0 up in
-          let bad : false ≡ true = ap (λ (s : Site). s.is_up) (sym here_down) ∙ there in
+          let bad : false ≡ true = ap (λ (s : SimulatedSite). s.is_up) (sym here_down) ∙ there in
           absurd (cc)
       | inr there ↦
           let other = other-next place j there.0 in
           let site = site-other w.centres (place + 1) (j + 1) (down tail) (omega arith) (omega arith) other in
           let facts : facts_of (ledger_with_fact (place + 1) o w.ledger) (j + 1) ≡ facts_of w.ledger (j + 1) = facts-with (place + 1) (j + 1) o w.ledger ∙ rw other refl in
-          rw (facts, site) (standing.each j x there.1 (ap (λ (s : Site). s.is_up) (sym site) ∙ up))
+          rw (facts, site) (standing.each j x there.1 (ap (λ (s : SimulatedSite). s.is_up) (sym site) ∙ up))
     ];
   }
 
@@ -229,20 +229,20 @@ shown-as x y answer reading other same here is there =
     ap (λ (a : Answer). Some a) (sym is) ∙ sym here ∙ ap (λ (s : Step). s.answer) steps ∙ there in
     cc
 
-some-written : (r : Result (Unit {0}) StepFault) (step : Step) → is_memory_run r ≡ false → is_memory_run (written r step) ≡ false
+some-written : (r : Result (Unit {0}) StepFault) (step : Step) → is_memory_run r ≡ false → is_memory_run (unless_refused r step) ≡ false
 some-written (Ok done) step some = refl
 some-written (Err fault) step some = some
 
 pub made-is : (result : Result (Result (Unit {0}) StepFault) Memory) (r : Result (Unit {0}) StepFault) (step : Step) (expected : Result Step StepFault)
-    → IfOk result (λ made. made ≡ r) → OnOk result (is_memory_run r ≡ false) → GivesUnless is_step_memory (written r step) expected
-    → IfOk result (λ made. written made step ≡ expected)
+    → IfOk result (λ made. made ≡ r) → OnOk result (is_memory_run r ≡ false) → GivesUnless is_step_memory (unless_refused r step) expected
+    → IfOk result (λ made. unless_refused made step ≡ expected)
 made-is (Ok x) r step expected same some gives =
-    ap (λ (m : Result (Unit {0}) StepFault). written m step) same ∙ exact (written r step) expected gives (some-written r step some)
+    ap (λ (m : Result (Unit {0}) StepFault). unless_refused m step) same ∙ exact (unless_refused r step) expected gives (some-written r step some)
 made-is (Err fault) r step expected same some gives = tt
 
 pub made-kept : (result : Result (Result (Unit {0}) StepFault) Memory) (r : Result (Unit {0}) StepFault) (step : Step) (P : Type 0)
-    → OnOk result (is_memory_run r ≡ false) → UnlessMemory (written r step) P → OnOk result P
-made-kept (Ok x) r step P some left = kept (written r step) left (some-written r step some)
+    → OnOk result (is_memory_run r ≡ false) → UnlessMemory (unless_refused r step) P → OnOk result P
+made-kept (Ok x) r step P some left = kept (unless_refused r step) left (some-written r step some)
 made-kept (Err fault) r step P some left = tt
 
 -- the nodes after a step that is as the definition's

@@ -5,18 +5,18 @@ use Rattle.std.specs.List.{list_any}
 use Rattle.std.specs.Option.{option_map}
 use Rattle.std.specs.Prelude.{IfSome, slice_get, not}
 use Rattle.std.proofs.lemmas.Bool.{and_parts, cases_Bool, leb-true, ltb-true}
-use Rattle.mdcc_mail.specs.Waiting.{before_first, first_to, waits_among}
-use Rattle.mdcc_messages.specs.Mailbox.{Sent, numbered}
-use Rattle.mdcc_simulation.specs.State.{Happened, World, after_lines, is_up_at, next_message}
-use Rattle.mdcc_simulation.specs.Events.{after_event}
-use Rattle.mdcc_simulation.specs.Deliveries.{after_message, first_waiting}
-use Rattle.mdcc_simulation.specs.Left.{left_of, settled_before}
-use Rattle.mdcc_simulation.specs.Limits.{is_limit, most_events, is_out_of_memory}
-use Rattle.mdcc_language.specs.declared.events.Event.{Event}
-use Rattle.mdcc_language.specs.declared.lines.Line.{Line}
-use Rattle.mdcc_messages.specs.declared.messages.Envelope.{Envelope}
-use Rattle.mdcc_language.specs.declared.world.EventFault.{EventFault}
-use Rattle.mdcc_language.specs.declared.world.LimitName.{LimitName}
+use Rattle.mdcc_world_mail.specs.Waiting.{before_first, first_to, waits_among}
+use Rattle.mdcc_def_messages.specs.Mailbox.{Sent, numbered}
+use Rattle.mdcc_def_simulation.specs.State.{Happened, World, after_lines, is_up_at, next_message}
+use Rattle.mdcc_def_simulation.specs.Events.{after_event}
+use Rattle.mdcc_def_simulation.specs.Deliveries.{after_message, first_waiting}
+use Rattle.mdcc_def_simulation.specs.Left.{left_of, settled_before}
+use Rattle.mdcc_def_simulation.specs.Limits.{is_limit, most_events, is_out_of_memory}
+use Rattle.mdcc_def_language.specs.declared.events.Event.{Event}
+use Rattle.mdcc_def_language.specs.declared.lines.Line.{Line}
+use Rattle.mdcc_def_messages.specs.declared.messages.Envelope.{Envelope}
+use Rattle.mdcc_def_language.specs.declared.world.EventFault.{EventFault}
+use Rattle.mdcc_def_language.specs.declared.world.LimitName.{LimitName}
 use Rattle.mdcc_world.proofs.CutShort.{BeginsWith, before-last, before-next, settle-cut, settle-whole}
 use Rattle.mdcc_world.proofs.Happened.{fault-then, happened-then, has-come}
 use Rattle.mdcc_world.proofs.Limited.{limit-with}
@@ -26,12 +26,12 @@ use Rattle.mdcc_world.specs.Limited.{lines_reported}
 use Rattle.mdcc_world.specs.SettleEnd.{AreAsked, EndsAfter, HasSettled, IsNext, is_listed_centre}
 use Rattle.mdcc_world.specs.Represents.{HasHappened, Happens, IsLike}
 use Rattle.mdcc_world.specs.declared.world.World.{World as TheWorld}
-use Rattle.mdcc_worlds.proofs.Events.{delivered-is}
-use Rattle.mdcc_worlds.proofs.Numbers.{waiting-numbered}
-use Rattle.mdcc_worlds.proofs.Settles.{settle-closed, settling-begins, settling-breaks, settling-ends, settling-goes_on, settling-stops, waiting-events}
-use Rattle.mdcc_worlds.specs.DeliveryProgress.{at_message, after_numbered_message, message_by}
-use Rattle.mdcc_worlds.specs.EventEffects.{at_limit}
-use Rattle.mdcc_worlds.specs.SettleProgress.{settle_reported}
+use Rattle.mdcc_theorem_worlds.proofs.Events.{delivered-is}
+use Rattle.mdcc_theorem_worlds.proofs.Numbers.{waiting-numbered}
+use Rattle.mdcc_theorem_worlds.proofs.Settles.{settle-closed, settling-begins, settling-breaks, settling-ends, settling-goes_on, settling-stops, waiting-events}
+use Rattle.mdcc_theorem_worlds.specs.DeliveryProgress.{at_message, after_numbered_message, message_by}
+use Rattle.mdcc_theorem_worlds.specs.EventEffects.{at_limit}
+use Rattle.mdcc_theorem_worlds.specs.SettleProgress.{settle_reported}
 
 -- ---- the message that waits first
 

@@ -5,34 +5,34 @@ use Rattle.std.specs.Prelude.{set}
 use Rattle.std.proofs.lemmas.Bool.{cases_Bool, le-leb, leb-true, lt-leb}
 use Rattle.mdcc_base.specs.Sizes.{Sizes}
 use Rattle.mdcc_base.specs.declared.outside.Image.{Image}
-use Rattle.mdcc_ledger.specs.Ledger.{Added, Entry, facts_of}
-use Rattle.mdcc_logs.specs.Tails.{HasTail, tail_at}
-use Rattle.mdcc_logs.specs.Represents.{LogsRepresent, with_fact_at, with_up}
-use Rattle.mdcc_messages.specs.declared.facts.Fact.{Fact}
-use Rattle.mdcc_language.specs.declared.lines.Line.{Line}
-use Rattle.mdcc_language.specs.declared.world.EventFault.{EventFault}
+use Rattle.mdcc_def_ledger.specs.Ledger.{Added, Entry, facts_of}
+use Rattle.mdcc_world_logs.specs.Tails.{HasTail, tail_at}
+use Rattle.mdcc_world_logs.specs.Represents.{LogsRepresent, with_fact_at, with_up}
+use Rattle.mdcc_def_messages.specs.declared.facts.Fact.{Fact}
+use Rattle.mdcc_def_language.specs.declared.lines.Line.{Line}
+use Rattle.mdcc_def_language.specs.declared.world.EventFault.{EventFault}
 use Rattle.mdcc_option.specs.declared.faults.BeginFault.{BeginFault}
 use Rattle.mdcc_option.specs.declared.items.Part.{Part}
 use Rattle.mdcc_base.specs.declared.identifiers.TxId.{TxId}
-use Rattle.mdcc_protocol.specs.Facts.{epoch_of}
-use Rattle.mdcc_protocol.specs.Volatile.{Managing, Volatile}
+use Rattle.mdcc_def_protocol.specs.Facts.{epoch_of}
+use Rattle.mdcc_def_protocol.specs.Volatile.{Managing, Volatile}
 use Rattle.mdcc_option.specs.declared.cluster.Cluster.{Cluster}
-use Rattle.mdcc_outcomes.specs.Represents.{RepresentsLedger}
-use Rattle.mdcc_rules.specs.ManagerRules.{begin_step, begin_step_by}
-use Rattle.mdcc_protocol.specs.Manager as Manager
-use Rattle.mdcc_rules.specs.Steps.{NodeStep, step_given}
-use Rattle.mdcc_rules.specs.declared.node.Input.{Input}
-use Rattle.mdcc_rules.specs.declared.node.Step.{Step}
-use Rattle.mdcc_rules.specs.declared.node.StepFault.{StepFault}
-use Rattle.mdcc_simulation.specs.State.{Happened, World, centre_at, down, is_up_at, with_centre}
-use Rattle.mdcc_simulation.specs.Limits.{input_limited, passed_log_limit, unless_limit, is_out_of_memory}
-use Rattle.mdcc_simulation.specs.AppliedSteps.{chosen_lines, fact_happened, input_happened, step_at, step_happened_by, step_stopped}
-use Rattle.mdcc_worlds.proofs.Events.{input-is}
-use Rattle.mdcc_worlds.proofs.Staying.{limited-stays}
-use Rattle.mdcc_worlds.proofs.Within.{made-quiet}
-use Rattle.mdcc_worlds.specs.StepSends.{is_begin}
-use Rattle.mdcc_worlds.specs.WorldInvariant.{IsWorld}
-use Rattle.mdcc_worlds.specs.StepEffects.{step_reported, reported_by, reported_stopped, ledger_with_fact}
+use Rattle.mdcc_world_decisions.specs.Represents.{RepresentsLedger}
+use Rattle.mdcc_def_rules.specs.ManagerRules.{begin_step, begin_step_by}
+use Rattle.mdcc_def_protocol.specs.Manager as Manager
+use Rattle.mdcc_def_rules.specs.Steps.{NodeStep, step_given}
+use Rattle.mdcc_def_rules.specs.declared.node.Input.{Input}
+use Rattle.mdcc_def_rules.specs.declared.node.Step.{Step}
+use Rattle.mdcc_def_rules.specs.declared.node.StepFault.{StepFault}
+use Rattle.mdcc_def_simulation.specs.State.{Happened, World, centre_at, down, is_up_at, with_centre}
+use Rattle.mdcc_def_simulation.specs.Limits.{input_limited, passed_log_limit, unless_limit, is_out_of_memory}
+use Rattle.mdcc_def_simulation.specs.AppliedSteps.{chosen_lines, fact_happened, input_happened, step_at, step_happened_by, step_stopped}
+use Rattle.mdcc_theorem_worlds.proofs.Events.{input-is}
+use Rattle.mdcc_theorem_worlds.proofs.Staying.{limited-stays}
+use Rattle.mdcc_theorem_worlds.proofs.Within.{made-quiet}
+use Rattle.mdcc_theorem_worlds.specs.StepSends.{is_begin_input}
+use Rattle.mdcc_theorem_worlds.specs.WorldInvariant.{IsWorld}
+use Rattle.mdcc_theorem_worlds.specs.StepEffects.{step_reported, reported_by, reported_stopped, ledger_with_fact}
 use Rattle.mdcc_world.proofs.Crashed.{open-set, stops-set, tails-set, ups-set}
 use Rattle.mdcc_world.proofs.Happened.{any-fault, limited, may_be}
 use Rattle.mdcc_world.proofs.Took.{logs-same, ok-given, valued-uncounted}
@@ -42,9 +42,9 @@ use Rattle.mdcc_world.specs.Nodes.{NodesRepresent}
 use Rattle.mdcc_world.specs.Represents.{Happens, HasHappened, IsLike, entries_of_step}
 use Rattle.mdcc_world.specs.StoppedAppend.{kept_entries, kept_lines}
 use Rattle.mdcc_world.specs.declared.world.World.{World as TheWorld}
-use Rattle.mdcc_logs.specs.Stopping.{stopped_facts}
-use Rattle.mdcc_rules.specs.Here.{here}
-use Rattle.mdcc_simulation.specs.Checkpoints.{is_checkpoint_kept, is_due_after, is_frame_kept, striking, striking_at, tail_stopped}
+use Rattle.mdcc_world_logs.specs.Stopping.{stopped_facts}
+use Rattle.mdcc_def_rules.specs.Here.{here}
+use Rattle.mdcc_def_simulation.specs.Checkpoints.{is_checkpoint_kept, is_due_after, is_frame_kept, striking, striking_at, tail_stopped}
 
 -- ---- what a stop strikes
 
@@ -124,10 +124,10 @@ module _ (world : TheWorld) (w : World) (a : ℕ) (input : Input) (step : Step) 
   fact-is = sym (ap (λ (x : Step). x.fact) gave.2) ∙ has
 
   -- it is no begin
-  other : is_begin input ≡ false
+  other : is_begin_input input ≡ false
   other = by_input input refl gave.1
     where
-      by_input : (i : Input) → input ≡ i → step_at w a i ≡ Ok s → is_begin i ≡ false
+      by_input : (i : Input) → input ≡ i → step_at w a i ≡ Ok s → is_begin_input i ≡ false
       by_input Input.Tick e k = refl
       by_input Input.Sweep e k = refl
       by_input (Input.Message envelope) e k = refl

@@ -6,46 +6,46 @@ use Rattle.std.proofs.lemmas.Bool.{cases_Bool, eq-eqb, eqb-true}
 use Rattle.mdcc_base.specs.Sizes.{Sizes}
 use Rattle.mdcc_base.specs.declared.faults.Memory.{Memory}
 use Rattle.mdcc_base.specs.declared.outside.Image.{Image}
-use Rattle.mdcc_logs.specs.Represents.{IsLogOf, LogsRepresent}
-use Rattle.mdcc_logs.specs.Tails.{HasTail, tail_at}
-use Rattle.mdcc_logs.specs.declared.logs.Logs.{Logs}
+use Rattle.mdcc_world_logs.specs.Represents.{IsLogOf, LogsRepresent}
+use Rattle.mdcc_world_logs.specs.Tails.{HasTail, tail_at}
+use Rattle.mdcc_world_logs.specs.declared.logs.Logs.{Logs}
 use Rattle.mdcc_node.specs.StepAnswers.{step_result}
-use Rattle.mdcc_outcomes.specs.Decided.{entry_decisions}
-use Rattle.mdcc_outcomes.specs.Represents.{RepresentsLedger}
-use Rattle.mdcc_outcomes.specs.declared.decisions.Decisions.{Decisions}
+use Rattle.mdcc_world_decisions.specs.Decided.{entry_decisions}
+use Rattle.mdcc_world_decisions.specs.Represents.{RepresentsLedger}
+use Rattle.mdcc_world_decisions.specs.declared.decisions.Decisions.{Decisions}
 use Rattle.mdcc_option.specs.declared.choices.Outcome.{Outcome}
-use Rattle.mdcc_protocol.specs.Belongs.{is_centre}
-use Rattle.mdcc_ledger.specs.Ledger.{Added, Begun, Entry, Valued, facts_of, new_outcomes}
-use Rattle.mdcc_messages.specs.Lengths.{messages_length}
-use Rattle.mdcc_protocol.specs.Marks.{is_commit}
-use Rattle.mdcc_rules.specs.Steps.{NodeStep, step_given}
-use Rattle.mdcc_simulation.specs.State.{Happened, Site, World, booted_to, centre_at, is_up_at}
-use Rattle.mdcc_messages.specs.Mailbox.{Sent, unsent}
-use Rattle.mdcc_simulation.specs.AppliedSteps.{chosen_lines, input_happened, step_at, step_happened, step_happened_by}
-use Rattle.mdcc_simulation.specs.Checkpoints.{striking_at}
-use Rattle.mdcc_simulation.specs.Limits.{input_limited, unless_limit, is_out_of_memory}
-use Rattle.mdcc_messages.specs.declared.facts.Fact.{Fact}
-use Rattle.mdcc_language.specs.declared.lines.Line.{Line}
-use Rattle.mdcc_messages.specs.declared.messages.Envelope.{Envelope}
-use Rattle.mdcc_rules.specs.declared.node.Input.{Input}
-use Rattle.mdcc_rules.specs.declared.node.Step.{Step}
-use Rattle.mdcc_rules.specs.declared.node.StepFault.{StepFault}
-use Rattle.mdcc_language.specs.declared.world.EventFault.{EventFault}
+use Rattle.mdcc_def_protocol.specs.Belongs.{is_centre}
+use Rattle.mdcc_def_ledger.specs.Ledger.{Added, Begun, Entry, Valued, facts_of, new_outcomes}
+use Rattle.mdcc_def_messages.specs.Lengths.{messages_length}
+use Rattle.mdcc_def_protocol.specs.Marks.{is_commit}
+use Rattle.mdcc_def_rules.specs.Steps.{NodeStep, step_given}
+use Rattle.mdcc_def_simulation.specs.State.{Happened, SimulatedSite, World, booted_to, centre_at, is_up_at}
+use Rattle.mdcc_def_messages.specs.Mailbox.{Sent, unsent}
+use Rattle.mdcc_def_simulation.specs.AppliedSteps.{chosen_lines, input_happened, step_at, step_happened, step_happened_by}
+use Rattle.mdcc_def_simulation.specs.Checkpoints.{striking_at}
+use Rattle.mdcc_def_simulation.specs.Limits.{input_limited, unless_limit, is_out_of_memory}
+use Rattle.mdcc_def_messages.specs.declared.facts.Fact.{Fact}
+use Rattle.mdcc_def_language.specs.declared.lines.Line.{Line}
+use Rattle.mdcc_def_messages.specs.declared.messages.Envelope.{Envelope}
+use Rattle.mdcc_def_rules.specs.declared.node.Input.{Input}
+use Rattle.mdcc_def_rules.specs.declared.node.Step.{Step}
+use Rattle.mdcc_def_rules.specs.declared.node.StepFault.{StepFault}
+use Rattle.mdcc_def_language.specs.declared.world.EventFault.{EventFault}
 use Rattle.mdcc_struct.specs.Maps.{TxMap}
-use Rattle.mdcc_steps.specs.Inputs.{IsWellFormedInput}
-use Rattle.mdcc_worlds.proofs.Events.{input-is}
-use Rattle.mdcc_worlds.proofs.Staying.{limited-stays}
-use Rattle.mdcc_worlds.proofs.Stays.{by-none, by-some, refused-same, site-here, site-there, some-centre}
-use Rattle.mdcc_worlds.proofs.Within.{made-quiet, made-stays}
-use Rattle.mdcc_worlds.specs.StepSends.{IsValuedBy, StaysWithin, is_begin}
-use Rattle.mdcc_worlds.specs.WorldInvariant.{IsWorld}
-use Rattle.mdcc_worlds.specs.StepEffects.{chosen_line, limit_passed, step_lines, step_reported, after_whole_step, reported_by, reported_whole, ledger_with_fact, tail_with_fact, world_after_step}
+use Rattle.mdcc_theorem_node_steps.specs.Inputs.{IsWellFormedInput}
+use Rattle.mdcc_theorem_worlds.proofs.Events.{input-is}
+use Rattle.mdcc_theorem_worlds.proofs.Staying.{limited-stays}
+use Rattle.mdcc_theorem_worlds.proofs.Stays.{by-none, by-some, refused-same, site-here, site-there, some-centre}
+use Rattle.mdcc_theorem_worlds.proofs.Within.{made-quiet, made-stays}
+use Rattle.mdcc_theorem_worlds.specs.StepSends.{IsValuedBy, StaysWithin, is_begin_input}
+use Rattle.mdcc_theorem_worlds.specs.WorldInvariant.{IsWorld}
+use Rattle.mdcc_theorem_worlds.specs.StepEffects.{chosen_line, limit_passed, step_lines, step_reported, after_whole_step, reported_by, reported_whole, ledger_with_fact, tail_with_fact, world_after_step}
 use Rattle.mdcc_world.proofs.Happened.{any-fault, limited, may_be}
-use Rattle.mdcc_world.specs.StepOutputs.{facts_with, tail_with}
+use Rattle.mdcc_world.specs.StepOutputs.{facts_with, tail_with_new_fact}
 use Rattle.mdcc_world.specs.NodeRuns.{HasRun}
 use Rattle.mdcc_world.specs.Nodes.{NodesRepresent, StopsRepresent, TailsRepresent, UpsRepresent}
 use Rattle.mdcc_world.specs.Represents.{Happens, entries_of_step}
-use Rattle.mdcc_world.specs.StoppedAppend.{IsWhole}
+use Rattle.mdcc_world.specs.StoppedAppend.{IsWholeStep}
 use Rattle.mdcc_world.specs.Report.{dropped_lines}
 use Rattle.mdcc_world.specs.declared.world.World.{World as TheWorld}
 
@@ -97,7 +97,7 @@ valued-uncounted decisions quorums me (Valued centre key version ballot options 
     })
 
 -- what an input tells beside its fact, but a begin
-pub input-counted : (decisions : Decisions) (w : World) (a : ℕ) (input : Input) → IsWorld w → IsWellFormedInput input → is_begin input ≡ false
+pub input-counted : (decisions : Decisions) (w : World) (a : ℕ) (input : Input) → IsWorld w → IsWellFormedInput input → is_begin_input input ≡ false
     → RepresentsLedger decisions w.cluster.quorums w.ledger → RepresentsLedger decisions w.cluster.quorums (entries_of_step (step_at w a input) ++ w.ledger)
 input-counted decisions w a input stands formed other counted = by_result (step_at w a input) refl
   where
@@ -165,8 +165,8 @@ module _ (w : World) (a : ℕ) (step : NodeStep) (world : IsWorld w) (centre : i
   up-same b some = elim (cases_Bool (a == b)) [
     | inl e ↦
         let same : a ≡ b = eqb-true a b e in
-        subst (λ (n : ℕ). (centre_at (world_after_step w a step) n).is_up ≡ (centre_at w n).is_up) same (ap (λ (s : Site). s.is_up) (site-here w a step world centre stays))
-    | inr e ↦ ap (λ (s : Site). s.is_up) (site-there w a step world centre stays b some e)
+        subst (λ (n : ℕ). (centre_at (world_after_step w a step) n).is_up ≡ (centre_at w n).is_up) same (ap (λ (s : SimulatedSite). s.is_up) (site-here w a step world centre stays))
+    | inr e ↦ ap (λ (s : SimulatedSite). s.is_up) (site-there w a step world centre stays b some e)
   ]
 
   pub up-taken : (b : ℕ) → 1 ≤ b → is_up_at w b ≡ is_up_at (world_after_step w a step) b
@@ -179,33 +179,33 @@ module _ (w : World) (a : ℕ) (step : NodeStep) (world : IsWorld w) (centre : i
   stops-taken stops stand b here = stand b here ∙ elim (cases_Bool (a == b)) [
     | inl e ↦
         let same : a ≡ b = eqb-true a b e in
-        subst (λ (n : ℕ). (centre_at w n).stop ≡ (centre_at (world_after_step w a step) n).stop) same (ap (λ (s : Site). s.stop) (sym (site-here w a step world centre stays)))
-    | inr e ↦ ap (λ (s : Site). s.stop) (sym (site-there w a step world centre stays b (some-centre w.cluster b here).0 e))
+        subst (λ (n : ℕ). (centre_at w n).stop ≡ (centre_at (world_after_step w a step) n).stop) same (ap (λ (s : SimulatedSite). s.stop) (sym (site-here w a step world centre stays)))
+    | inr e ↦ ap (λ (s : SimulatedSite). s.stop) (sym (site-there w a step world centre stays b (some-centre w.cluster b here).0 e))
   ]
 
   -- how long the tails are
-  pub tails-taken : (old new : Logs) → HasTail old new a (tail_with (tail_at old a) step.fact) → TailsRepresent old w → TailsRepresent new (world_after_step w a step)
+  pub tails-taken : (old new : Logs) → HasTail old new a (tail_with_new_fact (tail_at old a) step.fact) → TailsRepresent old w → TailsRepresent new (world_after_step w a step)
   tails-taken old new has stand b here = elim (cases_Bool (a == b)) [
     | inl e ↦
         let same : a ≡ b = eqb-true a b e in
         subst (λ (n : ℕ). tail_at new n ≡ (centre_at (world_after_step w a step) n).tail) same
-        (has.here ∙ ap (λ (n : ℕ). tail_with n step.fact) (stand a centre) ∙ tail-is step.fact ∙ ap (λ (s : Site). s.tail) (sym (site-here w a step world centre stays)))
+        (has.here ∙ ap (λ (n : ℕ). tail_with_new_fact n step.fact) (stand a centre) ∙ tail-is step.fact ∙ ap (λ (s : SimulatedSite). s.tail) (sym (site-here w a step world centre stays)))
     | inr e ↦
         let both = some-centre w.cluster b here in
         let nine = world.cluster_itself.quorums.nine_centres in
         let low : b ≤ 9 = omega (both.1, nine, arith) in
         let apart : b ≢ a = λ f. (let clash : true ≡ false = sym (eq-eqb a b (sym f)) ∙ e in absurd (cc)) in
-        has.others b low apart ∙ stand b here ∙ ap (λ (s : Site). s.tail) (sym (site-there w a step world centre stays b both.0 e))
+        has.others b low apart ∙ stand b here ∙ ap (λ (s : SimulatedSite). s.tail) (sym (site-there w a step world centre stays b both.0 e))
   ]
     where
-      tail-is : (o : Option Fact) → tail_with (centre_at w a).tail o ≡ tail_with_fact w a o
+      tail-is : (o : Option Fact) → tail_with_new_fact (centre_at w a).tail o ≡ tail_with_fact w a o
       tail-is None = refl
       tail-is (Some fact) = refl
 
 -- ---- what is taken
 
 -- a step that no stop strikes
-pub whole-happened : (w : World) (a : ℕ) (step : NodeStep) → IsWhole w a step.fact → step_happened w a step ≡ after_whole_step w a step
+pub whole-happened : (w : World) (a : ℕ) (step : NodeStep) → IsWholeStep w a step.fact → step_happened w a step ≡ after_whole_step w a step
 whole-happened w a step (inl none) = ap (step_happened_by w a step) none ∙ by-none w a step none
 whole-happened w a step (inr unstopped) = by_fact step.fact refl
   where
@@ -213,7 +213,7 @@ whole-happened w a step (inr unstopped) = by_fact step.fact refl
     by_fact None e = by-none w a step e
     by_fact (Some fact) e = by-some w a step fact e unstopped
 
-pub whole-reported : (w : World) (a : ℕ) (step : NodeStep) → IsWhole w a step.fact → reported_by w a step step.fact (striking_at w a) ≡ reported_whole w a step
+pub whole-reported : (w : World) (a : ℕ) (step : NodeStep) → IsWholeStep w a step.fact → reported_by w a step step.fact (striking_at w a) ≡ reported_whole w a step
 whole-reported w a step (inl none) = ap (λ (o : Option Fact). reported_by w a step o (striking_at w a)) none
 whole-reported w a step (inr unstopped) = ap (reported_by w a step step.fact) unstopped ∙ by_fact step.fact
   where
@@ -221,7 +221,7 @@ whole-reported w a step (inr unstopped) = ap (reported_by w a step step.fact) un
     by_fact None = refl
     by_fact (Some fact) = refl
 
-module _ (world : TheWorld) (w : World) (a : ℕ) (input : Input) (step : Step) (made : HasRun world w a input (Ok step)) (whole : IsWhole w a step.fact) where
+module _ (world : TheWorld) (w : World) (a : ℕ) (input : Input) (step : Step) (made : HasRun world w a input (Ok step)) (whole : IsWholeStep w a step.fact) where
   abbrev result : Result NodeStep StepFault
   result = step_at w a input
 
@@ -243,8 +243,8 @@ module _ (world : TheWorld) (w : World) (a : ℕ) (input : Input) (step : Step) 
   pub step-stays : StaysWithin w.cluster s
   step-stays = made-stays w.cluster a (facts_of w.ledger a) (centre_at w a).volatile input s world-is.cluster_itself.quorums made.before.well_formed gave.1
 
-  whole-is : IsWhole w a s.fact
-  whole-is = subst (IsWhole w a) fact-is whole
+  whole-is : IsWholeStep w a s.fact
+  whole-is = subst (IsWholeStep w a) fact-is whole
 
   happens : input_happened w a result ≡ after_whole_step w a s
   happens = ap (input_happened w a) gave.1 ∙ whole-happened w a s whole-is
@@ -267,7 +267,7 @@ module _ (world : TheWorld) (w : World) (a : ℕ) (input : Input) (step : Step) 
       → limit_passed w a step.fact step.sends ≡ None
       → new.network ≡ world.network ++ map unsent step.sends → new.bytes ≡ world.bytes + messages_length step.sends
       → LogsRepresent new.logs w.cluster.quorums.centres (is_up_at w) (facts_with (facts_of w.ledger) a step.fact)
-      → HasTail world.logs new.logs a (tail_with (tail_at world.logs a) step.fact)
+      → HasTail world.logs new.logs a (tail_with_new_fact (tail_at world.logs a) step.fact)
       → ((quorums : Sizes) (entries : List Entry) → RepresentsLedger world.decisions quorums entries → RepresentsLedger new.decisions quorums (ledger_with_fact a step.fact entries))
       → ((quorums : Sizes) (entries : List Entry) → RepresentsLedger world.decisions quorums entries → lines ≡ before ++ step_lines quorums a step.fact entries)
       → Happens {T = Unit {0}} new before lines (Ok tt) (input_limited w a (step_at w a input))
@@ -299,7 +299,7 @@ module _ (world : TheWorld) (w : World) (a : ℕ) (input : Input) (step : Step) 
           logs = logs-same new.logs w.cluster.quorums.centres (is_up_at w) (is_up_at (world_after_step w a s)) (facts_with (facts_of w.ledger) a s.fact) (facts_of (world_after_step w a s).ledger)
               (λ b some within. up-taken w a s world-is made.before.centre step-stays b some) (λ b some within. facts-taken w a s world-is made.before.centre step-stays b) kept;
           tails = tails-taken w a s world-is made.before.centre step-stays world.logs new.logs
-              (subst (λ (o : Option Fact). HasTail world.logs new.logs a (tail_with (tail_at world.logs a) o)) fact-is tail) made.before.tails;
+              (subst (λ (o : Option Fact). HasTail world.logs new.logs a (tail_with_new_fact (tail_at world.logs a) o)) fact-is tail) made.before.tails;
         };
         lines = reported w.cluster.quorums (s.entries ++ w.ledger) here ∙ ap (λ (o : Option Fact). before ++ step_lines w.cluster.quorums a o (s.entries ++ w.ledger)) fact-is;
       })

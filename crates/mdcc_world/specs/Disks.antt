@@ -2,10 +2,10 @@
 use Rattle.std.specs.Prelude.{◌≡◌, ◌+◌, ◌<◌, List, Ok, length, true, ℕ}
 use Rattle.mdcc_log_file.specs.Area.{AreaLog, payloads, read_areas}
 use Rattle.mdcc_disks.specs.Memory.{AllMemory, disk_of}
-use Rattle.mdcc_protocol.specs.Belongs.{is_centre}
-use Rattle.mdcc_ledger.specs.Ledger.{facts_of}
-use Rattle.mdcc_simulation.specs.State.{World, is_up_at}
-use Rattle.mdcc_messages.specs.Spelling.{encodings_of}
+use Rattle.mdcc_def_protocol.specs.Belongs.{is_centre}
+use Rattle.mdcc_def_ledger.specs.Ledger.{facts_of}
+use Rattle.mdcc_def_simulation.specs.State.{World, is_up_at}
+use Rattle.mdcc_def_messages.specs.Spelling.{encodings_of}
 
 -- the frames of the current area of a centre, those after its last checkpoint, are so few
 abbrev pub HasShortTail : List ℕ → List ℕ → Type 0

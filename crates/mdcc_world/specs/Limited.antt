@@ -1,13 +1,13 @@
 -- What stands of the lines of an event that would pass a limit.
 use Rattle.std.specs.Bool.{OnTrue}
 use Rattle.std.specs.Prelude.{Err, IfErr, List, Ok, Result, []}
-use Rattle.mdcc_language.specs.declared.events.Event.{Event}
-use Rattle.mdcc_language.specs.declared.lines.Line.{Line}
-use Rattle.mdcc_language.specs.declared.world.EventFault.{EventFault}
-use Rattle.mdcc_simulation.specs.Left.{left_of}
-use Rattle.mdcc_simulation.specs.Limits.{is_limit}
-use Rattle.mdcc_simulation.specs.State.{World}
-use Rattle.mdcc_worlds.specs.EventEffects.{at_limit}
+use Rattle.mdcc_def_language.specs.declared.events.Event.{Event}
+use Rattle.mdcc_def_language.specs.declared.lines.Line.{Line}
+use Rattle.mdcc_def_language.specs.declared.world.EventFault.{EventFault}
+use Rattle.mdcc_def_simulation.specs.Left.{left_of}
+use Rattle.mdcc_def_simulation.specs.Limits.{is_limit}
+use Rattle.mdcc_def_simulation.specs.State.{World}
+use Rattle.mdcc_theorem_worlds.specs.EventEffects.{at_limit}
 
 -- where an answer is that a limit would be passed
 abbrev pub OnLimit : {T : Type 0} → Result T EventFault → Type 0 → Type 0

@@ -1,16 +1,16 @@
 -- What a centre made of an input, before it is let out.
 use Rattle.std.specs.Prelude.{◌≡◌, Result, ℕ}
-use Rattle.mdcc_simulation.specs.State.{World}
-use Rattle.mdcc_simulation.specs.AppliedSteps.{input_happened, step_at}
-use Rattle.mdcc_simulation.specs.Limits.{input_applied}
-use Rattle.mdcc_messages.specs.declared.messages.Envelope.{Envelope}
-use Rattle.mdcc_rules.specs.declared.node.Input.{Input}
-use Rattle.mdcc_rules.specs.declared.node.Step.{Step}
-use Rattle.mdcc_rules.specs.declared.node.StepFault.{StepFault}
+use Rattle.mdcc_def_simulation.specs.State.{World}
+use Rattle.mdcc_def_simulation.specs.AppliedSteps.{input_happened, step_at}
+use Rattle.mdcc_def_simulation.specs.Limits.{input_applied}
+use Rattle.mdcc_def_messages.specs.declared.messages.Envelope.{Envelope}
+use Rattle.mdcc_def_rules.specs.declared.node.Input.{Input}
+use Rattle.mdcc_def_rules.specs.declared.node.Step.{Step}
+use Rattle.mdcc_def_rules.specs.declared.node.StepFault.{StepFault}
 use Rattle.mdcc_world.specs.Nodes.{NodesRepresent}
 use Rattle.mdcc_world.specs.Represents.{IsBeforeStep}
 use Rattle.mdcc_world.specs.declared.world.World.{World as TheWorld}
-use Rattle.mdcc_worlds.specs.DeliveryProgress.{after_numbered_message, message_counted}
+use Rattle.mdcc_theorem_worlds.specs.DeliveryProgress.{after_numbered_message, message_counted}
 
 -- its node has taken the input, and all else is as before
 pub record HasRun (world : TheWorld) (w : World) (a : ℕ) (input : Input) (made : Result Step StepFault) : Type 0 where

@@ -1,16 +1,16 @@
 -- Which nodes stand for the centres of a world.
 use Rattle.std.specs.Prelude.{◌≡◌, ◌+◌, ◌-◌, ◌≤◌, Bool, Err, List, None, Ok, Option, Result, Some, false, get_or, length, slice_get, true, ℕ}
 use Rattle.mdcc_base.specs.declared.outside.Image.{Image}
-use Rattle.mdcc_centre.specs.Nodes.{CentreStore, IsNodeOf}
-use Rattle.mdcc_logs.specs.Tails.{tail_at}
-use Rattle.mdcc_logs.specs.declared.logs.Logs.{Logs}
+use Rattle.mdcc_node_log.specs.Nodes.{CentreStore, IsNodeOf}
+use Rattle.mdcc_world_logs.specs.Tails.{tail_at}
+use Rattle.mdcc_world_logs.specs.declared.logs.Logs.{Logs}
 use Rattle.mdcc_node.specs.StepAnswers.{is_step_memory}
 use Rattle.mdcc_node.specs.declared.node.Node.{Node}
-use Rattle.mdcc_protocol.specs.Belongs.{is_centre}
-use Rattle.mdcc_ledger.specs.Ledger.{facts_of}
-use Rattle.mdcc_simulation.specs.State.{World, centre_at, is_up_at}
-use Rattle.mdcc_rules.specs.declared.node.StepFault.{StepFault}
-use Rattle.mdcc_worlds.specs.WorldInvariant.{IsWorld}
+use Rattle.mdcc_def_protocol.specs.Belongs.{is_centre}
+use Rattle.mdcc_def_ledger.specs.Ledger.{facts_of}
+use Rattle.mdcc_def_simulation.specs.State.{World, centre_at, is_up_at}
+use Rattle.mdcc_def_rules.specs.declared.node.StepFault.{StepFault}
+use Rattle.mdcc_theorem_worlds.specs.WorldInvariant.{IsWorld}
 
 -- a node for each centre; that of a centre that is up stands over a store of what the centre added, which has the cells of the
 -- cluster that these facts leave, and that of another counts for nothing

@@ -3,10 +3,10 @@ use Rattle.std.specs.Prelude.{List, None, Option, Some, [], ℕ, ◌∷◌}
 use Rattle.mdcc_base.specs.declared.identifiers.TxId.{TxId}
 use Rattle.mdcc_option.specs.Transaction.{choices_of}
 use Rattle.mdcc_option.specs.declared.items.Part.{Part}
-use Rattle.mdcc_ledger.specs.Ledger.{Begun, Entry}
-use Rattle.mdcc_language.specs.declared.lines.Line.{Line}
-use Rattle.mdcc_rules.specs.declared.node.Answer.{Answer}
-use Rattle.mdcc_rules.specs.declared.node.StepFault.{StepFault}
+use Rattle.mdcc_def_ledger.specs.Ledger.{Begun, Entry}
+use Rattle.mdcc_def_language.specs.declared.lines.Line.{Line}
+use Rattle.mdcc_def_rules.specs.declared.node.Answer.{Answer}
+use Rattle.mdcc_def_rules.specs.declared.node.StepFault.{StepFault}
 
 -- the transaction that was begun
 abbrev pub begun_tx : Option Answer → Option TxId

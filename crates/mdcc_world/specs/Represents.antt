@@ -1,25 +1,25 @@
 -- Which world of the definitions a world stands for.
 use Rattle.std.specs.Bool.{OnFalse}
 use Rattle.std.specs.Prelude.{◌≡◌, ◌≤◌, ◌++◌, Err, List, Ok, Result, Some, [], length, map, true, ℕ}
-use Rattle.mdcc_logs.specs.Represents.{LogsRepresent}
+use Rattle.mdcc_world_logs.specs.Represents.{LogsRepresent}
 use Rattle.mdcc_node.specs.StepAnswers.{step_result}
-use Rattle.mdcc_outcomes.specs.Represents.{RepresentsLedger}
-use Rattle.mdcc_protocol.specs.Belongs.{is_centre}
-use Rattle.mdcc_ledger.specs.Ledger.{Entry, facts_of}
-use Rattle.mdcc_rules.specs.Steps.{NodeStep}
-use Rattle.mdcc_simulation.specs.State.{Happened, World, is_up_at}
-use Rattle.mdcc_simulation.specs.AppliedSteps.{step_at}
-use Rattle.mdcc_language.specs.declared.lines.Line.{Line}
-use Rattle.mdcc_rules.specs.declared.node.Input.{Input}
-use Rattle.mdcc_rules.specs.declared.node.Step.{Step}
-use Rattle.mdcc_rules.specs.declared.node.StepFault.{StepFault}
-use Rattle.mdcc_language.specs.declared.world.EventFault.{EventFault}
-use Rattle.mdcc_steps.specs.NodeInvariant.{accept_length_in}
-use Rattle.mdcc_steps.specs.Inputs.{IsWellFormedInput}
+use Rattle.mdcc_world_decisions.specs.Represents.{RepresentsLedger}
+use Rattle.mdcc_def_protocol.specs.Belongs.{is_centre}
+use Rattle.mdcc_def_ledger.specs.Ledger.{Entry, facts_of}
+use Rattle.mdcc_def_rules.specs.Steps.{NodeStep}
+use Rattle.mdcc_def_simulation.specs.State.{Happened, World, is_up_at}
+use Rattle.mdcc_def_simulation.specs.AppliedSteps.{step_at}
+use Rattle.mdcc_def_language.specs.declared.lines.Line.{Line}
+use Rattle.mdcc_def_rules.specs.declared.node.Input.{Input}
+use Rattle.mdcc_def_rules.specs.declared.node.Step.{Step}
+use Rattle.mdcc_def_rules.specs.declared.node.StepFault.{StepFault}
+use Rattle.mdcc_def_language.specs.declared.world.EventFault.{EventFault}
+use Rattle.mdcc_theorem_node_steps.specs.NodeInvariant.{accept_length_in}
+use Rattle.mdcc_theorem_node_steps.specs.Inputs.{IsWellFormedInput}
 use Rattle.mdcc_world.specs.Nodes.{NodesRepresent, StopsRepresent, TailsRepresent, UpsRepresent}
 use Rattle.mdcc_world.specs.declared.world.World.{World as TheWorld}
-use Rattle.mdcc_worlds.specs.WorldInvariant.{IsWorld}
-use Rattle.mdcc_simulation.specs.Limits.{is_out_of_memory}
+use Rattle.mdcc_theorem_worlds.specs.WorldInvariant.{IsWorld}
+use Rattle.mdcc_def_simulation.specs.Limits.{is_out_of_memory}
 
 -- its cluster, its messages and their bytes, the reads that were made, the number of events, which centres are up, and where a stop is
 -- armed

@@ -3,17 +3,17 @@ use Rattle.std.specs.Bool.{OnFalse}
 use Rattle.std.specs.List.{list_any}
 use Rattle.std.specs.Option.{option_map}
 use Rattle.std.specs.Prelude.{◌≡◌, ◌-◌, ◌==◌, ◌&&◌, ◌||◌, Bool, Err, List, Ok, Option, Result, length, ℕ}
-use Rattle.mdcc_simulation.specs.State.{Happened, World, counted_event, is_up_at}
-use Rattle.mdcc_simulation.specs.Deliveries.{first_waiting}
-use Rattle.mdcc_simulation.specs.Events.{after_event}
-use Rattle.mdcc_simulation.specs.Left.{settled_before}
-use Rattle.mdcc_simulation.specs.Limits.{most_events, is_out_of_memory}
-use Rattle.mdcc_language.specs.declared.events.Event.{Event}
-use Rattle.mdcc_language.specs.declared.lines.Line.{Line}
-use Rattle.mdcc_language.specs.declared.world.EventFault.{EventFault}
+use Rattle.mdcc_def_simulation.specs.State.{Happened, World, counted_event, is_up_at}
+use Rattle.mdcc_def_simulation.specs.Deliveries.{first_waiting}
+use Rattle.mdcc_def_simulation.specs.Events.{after_event}
+use Rattle.mdcc_def_simulation.specs.Left.{settled_before}
+use Rattle.mdcc_def_simulation.specs.Limits.{most_events, is_out_of_memory}
+use Rattle.mdcc_def_language.specs.declared.events.Event.{Event}
+use Rattle.mdcc_def_language.specs.declared.lines.Line.{Line}
+use Rattle.mdcc_def_language.specs.declared.world.EventFault.{EventFault}
 use Rattle.mdcc_world.specs.Represents.{HasHappened}
 use Rattle.mdcc_world.specs.declared.world.World.{World as TheWorld}
-use Rattle.mdcc_worlds.specs.SettleProgress.{IsSettling, settle_reported, settle_ended}
+use Rattle.mdcc_theorem_worlds.specs.SettleProgress.{IsSettling, settle_reported, settle_ended}
 
 -- whether a centre is listed, where some are
 abbrev pub is_listed_centre : List ℕ → ℕ → Bool

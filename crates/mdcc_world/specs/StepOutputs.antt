@@ -1,13 +1,13 @@
 -- What a step lets out.
 use Rattle.std.specs.Prelude.{◌≡◌, ◌≤◌, List, None, Option, Some, true, ⊤, ℕ}
-use Rattle.mdcc_logs.specs.Represents.{IsOpenAt, LogsRepresent, with_fact_at}
-use Rattle.mdcc_logs.specs.declared.logs.Logs.{Logs}
-use Rattle.mdcc_ledger.specs.Ledger.{facts_of}
-use Rattle.mdcc_messages.specs.Lengths.{fact_length}
-use Rattle.mdcc_messages.specs.WellFormed.{IsWellFormedFact}
-use Rattle.mdcc_simulation.specs.State.{World, is_up_at}
-use Rattle.mdcc_messages.specs.declared.facts.Fact.{Fact}
-use Rattle.mdcc_simulation.specs.Checkpoints.{tail_after}
+use Rattle.mdcc_world_logs.specs.Represents.{IsOpenAt, LogsRepresent, with_fact_at}
+use Rattle.mdcc_world_logs.specs.declared.logs.Logs.{Logs}
+use Rattle.mdcc_def_ledger.specs.Ledger.{facts_of}
+use Rattle.mdcc_def_messages.specs.Lengths.{fact_length}
+use Rattle.mdcc_def_messages.specs.WellFormed.{IsWellFormedFact}
+use Rattle.mdcc_def_simulation.specs.State.{World, is_up_at}
+use Rattle.mdcc_def_messages.specs.declared.facts.Fact.{Fact}
+use Rattle.mdcc_def_simulation.specs.Checkpoints.{tail_after_append}
 use Rattle.mdcc_world.specs.declared.world.World.{World as TheWorld}
 
 -- the facts of all centres with a new one of a centre, where there is one
@@ -16,9 +16,9 @@ facts_with facts a None = facts
 facts_with facts a (Some fact) = with_fact_at facts a fact
 
 -- the frames of the tail of a log with a new fact, where there is one
-abbrev pub tail_with : ℕ → Option Fact → ℕ
-tail_with tail None = tail
-tail_with tail (Some fact) = tail_after tail
+abbrev pub tail_with_new_fact : ℕ → Option Fact → ℕ
+tail_with_new_fact tail None = tail
+tail_with_new_fact tail (Some fact) = tail_after_append tail
 
 -- a fact that may be appended to the log of a centre
 pub record MayAppendFact (logs : Logs) (a : ℕ) (fact : Fact) : Type 0 where

@@ -2,16 +2,16 @@
 use Rattle.std.specs.Prelude.{◌≡◌, ◌⊎◌, ◌∷◌, [], List, None, Option, if◌then◌else◌, ℕ}
 use Rattle.mdcc_base.specs.Sizes.{Sizes}
 use Rattle.mdcc_base.specs.declared.outside.Image.{Image}
-use Rattle.mdcc_language.specs.declared.lines.Line.{Line}
-use Rattle.mdcc_ledger.specs.Ledger.{Added, Entry}
-use Rattle.mdcc_messages.specs.declared.facts.Fact.{Fact}
-use Rattle.mdcc_simulation.specs.State.{World}
-use Rattle.mdcc_simulation.specs.AppliedSteps.{chosen_lines}
-use Rattle.mdcc_simulation.specs.Checkpoints.{is_frame_kept, striking_at}
+use Rattle.mdcc_def_language.specs.declared.lines.Line.{Line}
+use Rattle.mdcc_def_ledger.specs.Ledger.{Added, Entry}
+use Rattle.mdcc_def_messages.specs.declared.facts.Fact.{Fact}
+use Rattle.mdcc_def_simulation.specs.State.{World}
+use Rattle.mdcc_def_simulation.specs.AppliedSteps.{chosen_lines}
+use Rattle.mdcc_def_simulation.specs.Checkpoints.{is_frame_kept, striking_at}
 
 -- a step is taken whole where it has no fact, and where no stop strikes
-abbrev pub IsWhole : World → ℕ → Option Fact → Type 0
-IsWhole w a fact = (fact ≡ None) ⊎ (striking_at w a ≡ None)
+abbrev pub IsWholeStep : World → ℕ → Option Fact → Type 0
+IsWholeStep w a fact = (fact ≡ None) ⊎ (striking_at w a ≡ None)
 
 -- the fact counts where its frame is in the image
 abbrev pub kept_entries : ℕ → Fact → ℕ → Image → List Entry → List Entry

@@ -1,7 +1,7 @@
 -- What a schedule has happen at a centre without a message or a client: a tick or a sweep.
 use Rattle.std.specs.Prelude.{Bool, List, [], if◌then◌else◌, ℕ, ◌∷◌}
-use Rattle.mdcc_language.specs.declared.lines.Line.{Line}
-use Rattle.mdcc_simulation.specs.State.{World, next_message}
+use Rattle.mdcc_def_language.specs.declared.lines.Line.{Line}
+use Rattle.mdcc_def_simulation.specs.State.{World, next_message}
 
 -- its line, before these messages
 abbrev pub timed_line : Bool → ℕ → ℕ → Line

@@ -2,27 +2,27 @@
 ghost use Rattle.std.specs.Prelude.{◌≡◌, ◌≤◌, ◌<◌, Err, IfErr, List, Ok, OnErr, OnOk, true, ℕ};
 ghost use Rattle.mdcc_option.specs.Transaction.{transaction_of};
 ghost use Rattle.mdcc_option.specs.declared.items.Part.{Part as APart};
-ghost use Rattle.mdcc_simulation.specs.State.{World as AWorld, counted_event, is_up_at};
-ghost use Rattle.mdcc_simulation.specs.Clients.{after_begin_step, no_item};
-ghost use Rattle.mdcc_simulation.specs.Events.{after_event};
-ghost use Rattle.mdcc_simulation.specs.AppliedSteps.{step_at};
-ghost use Rattle.mdcc_language.specs.declared.events.Event.{Event as AEvent};
-ghost use Rattle.mdcc_rules.specs.declared.node.Input.{Input as AInput};
-ghost use Rattle.mdcc_steps.specs.Inputs.{AreWellFormedParts};
+ghost use Rattle.mdcc_def_simulation.specs.State.{World as AWorld, counted_event, is_up_at};
+ghost use Rattle.mdcc_def_simulation.specs.Clients.{after_begin_step, refused_without_item};
+ghost use Rattle.mdcc_def_simulation.specs.Events.{after_event};
+ghost use Rattle.mdcc_def_simulation.specs.AppliedSteps.{step_at};
+ghost use Rattle.mdcc_def_language.specs.declared.events.Event.{Event as AEvent};
+ghost use Rattle.mdcc_def_rules.specs.declared.node.Input.{Input as AInput};
+ghost use Rattle.mdcc_theorem_node_steps.specs.Inputs.{AreWellFormedParts};
 ghost use Rattle.mdcc_world.specs.Faults.{OnRefusal, is_free};
 ghost use Rattle.mdcc_world.specs.NodeRuns.{HasRun, HasRunSome};
 ghost use Rattle.mdcc_world.specs.Represents.{Happens, IsLike, IsLikeSome};
-ghost use Rattle.mdcc_worlds.specs.BeginEffects.{after_begin_resolved, after_begin_parts, after_begin_draft};
-ghost use Rattle.mdcc_worlds.specs.EventEffects.{at_limit, if_open};
+ghost use Rattle.mdcc_theorem_worlds.specs.BeginEffects.{after_begin_resolved, after_begin_parts, after_begin_draft};
+ghost use Rattle.mdcc_theorem_worlds.specs.EventEffects.{at_limit, if_open};
 
 use crate::given::words_given;
 use crate::report::report_begun;
 use crate::world::World;
 use mdcc_base::{Centre, HeapList, Key};
-use mdcc_language::{EventFault, Line, ResolveFault, UpdateWord};
+use mdcc_def_language::{EventFault, Line, ResolveFault, UpdateWord};
+use mdcc_def_rules::Step;
 use mdcc_node::blank;
 use mdcc_option::{BeginFault, Part, Transaction};
-use mdcc_rules::Step;
 use mdcc_sched::resolve;
 
 impl World {
@@ -99,7 +99,7 @@ impl World {
     fn refuse(&mut self, key: &Key, lines: &mut HeapList<Line>) -> Result<(), EventFault>
         requires { IsLikeSome self.old }
         ensures happens { (w : AWorld) → IsLike self.old w
-            → Happens self.new lines.old lines.new result (if_open (at_limit w) (Ok (no_item (counted_event w) key.now))) }
+            → Happens self.new lines.old lines.new result (if_open (at_limit w) (Ok (refused_without_item (counted_event w) key.now))) }
         ensures few { OnOk result (self.new.events ≤ 100000) }
         ensures kept { OnRefusal result ((self.new ≡ self.old) × (lines.new ≡ lines.old)) }
         ensures untold { OnErr result (lines.new ≡ lines.old) }

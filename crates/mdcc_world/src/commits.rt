@@ -1,28 +1,28 @@
 //! What a step lets out: its fact, once it is durable, then its messages, and lines of the report.
 ghost use Rattle.std.specs.Prelude.{◌≡◌, ◌≤◌, ◌++◌, ◌∷◌, Bool, List, OnErr, OnOk, false, length, map, true, ℕ};
 ghost use Rattle.mdcc_base.specs.Sizes.{Sizes};
-ghost use Rattle.mdcc_logs.specs.Represents.{LogsRepresent};
-ghost use Rattle.mdcc_logs.specs.Tails.{HasTail, tail_at};
-ghost use Rattle.mdcc_outcomes.specs.Represents.{RepresentsLedger};
-ghost use Rattle.mdcc_ledger.specs.Ledger.{Added, Entry};
-ghost use Rattle.mdcc_protocol.specs.Marks.{is_commit};
-ghost use Rattle.mdcc_simulation.specs.AppliedSteps.{chosen_lines, heard_lines};
-ghost use Rattle.mdcc_messages.specs.Mailbox.{unsent};
-ghost use Rattle.mdcc_messages.specs.declared.facts.Fact.{Fact as AFact};
-ghost use Rattle.mdcc_world.specs.StepOutputs.{IsFramed, facts_with, tail_with};
+ghost use Rattle.mdcc_world_logs.specs.Represents.{LogsRepresent};
+ghost use Rattle.mdcc_world_logs.specs.Tails.{HasTail, tail_at};
+ghost use Rattle.mdcc_world_decisions.specs.Represents.{RepresentsLedger};
+ghost use Rattle.mdcc_def_ledger.specs.Ledger.{Added, Entry};
+ghost use Rattle.mdcc_def_protocol.specs.Marks.{is_commit};
+ghost use Rattle.mdcc_def_simulation.specs.AppliedSteps.{chosen_lines, heard_lines};
+ghost use Rattle.mdcc_def_messages.specs.Mailbox.{unsent};
+ghost use Rattle.mdcc_def_messages.specs.declared.facts.Fact.{Fact as AFact};
+ghost use Rattle.mdcc_world.specs.StepOutputs.{IsFramed, facts_with, tail_with_new_fact};
 ghost use Rattle.mdcc_world.specs.StoppedAppend.{kept_entries, kept_lines};
 ghost use Rattle.mdcc_world.specs.Report.{dropped_lines};
-ghost use Rattle.mdcc_worlds.specs.StepEffects.{chosen_line, fact_lines, step_lines, ledger_with_fact};
-ghost use Rattle.mdcc_simulation.specs.Checkpoints.{is_frame_kept};
+ghost use Rattle.mdcc_theorem_worlds.specs.StepEffects.{chosen_line, fact_lines, step_lines, ledger_with_fact};
+ghost use Rattle.mdcc_def_simulation.specs.Checkpoints.{is_frame_kept};
 
 use mdcc_base::{Centre, HeapList, Image, Memory, TxId};
-use mdcc_language::Line;
-use mdcc_logs::Logs;
-use mdcc_mail::{MessageBatch, Network};
-use mdcc_messages::Fact;
+use mdcc_def_language::Line;
+use mdcc_def_messages::Fact;
+use mdcc_def_rules::StepFault;
 use mdcc_option::Outcome;
-use mdcc_outcomes::Decisions;
-use mdcc_rules::StepFault;
+use mdcc_world_decisions::Decisions;
+use mdcc_world_logs::Logs;
+use mdcc_world_mail::{MessageBatch, Network};
 use std::alloc::Global;
 
 // Whether a transaction committed.
@@ -164,7 +164,7 @@ fn append_fact(
     ensures logs { (centres : ℕ) (up : ℕ → Bool) (facts : ℕ → List AFact) → LogsRepresent logs.old centres up facts → up centre ≡ true
         → OnOk result (LogsRepresent logs.new centres up (facts_with facts centre fact.now)) }
     ensures tail { (centres : ℕ) (up : ℕ → Bool) (facts : ℕ → List AFact) → LogsRepresent logs.old centres up facts → up centre ≡ true
-        → OnOk result (HasTail logs.old logs.new centre (tail_with (tail_at logs.old centre) fact.now)) }
+        → OnOk result (HasTail logs.old logs.new centre (tail_with_new_fact (tail_at logs.old centre) fact.now)) }
 {
     match fact {
         Some(fact) => logs.append(alloc, centre, fact),
@@ -187,7 +187,7 @@ pub(crate) fn persist_then_send(
     ensures logs { (centres : ℕ) (up : ℕ → Bool) (facts : ℕ → List AFact) → LogsRepresent logs.old centres up facts → up centre ≡ true
         → OnOk result (LogsRepresent logs.new centres up (facts_with facts centre fact.now)) }
     ensures tail { (centres : ℕ) (up : ℕ → Bool) (facts : ℕ → List AFact) → LogsRepresent logs.old centres up facts → up centre ≡ true
-        → OnOk result (HasTail logs.old logs.new centre (tail_with (tail_at logs.old centre) fact.now)) }
+        → OnOk result (HasTail logs.old logs.new centre (tail_with_new_fact (tail_at logs.old centre) fact.now)) }
     ensures sent { OnOk result (network.new ≡ network.old ++ map unsent batch) }
     ensures unsent { OnErr result (network.new ≡ network.old) }
 {

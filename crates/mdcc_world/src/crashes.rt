@@ -1,20 +1,20 @@
 //! Crashes and restarts.
 ghost use Rattle.std.specs.Prelude.{◌≡◌, ◌≤◌, ◌<◌, ◌+◌, ◌-◌, IfErr, None, OnErr, OnOk, length, set, false, true};
-ghost use Rattle.mdcc_protocol.specs.Belongs.{is_centre};
-ghost use Rattle.mdcc_simulation.specs.State.{World as AWorld, counted_event, is_up_at};
-ghost use Rattle.mdcc_simulation.specs.Centres.{crash_happened};
-ghost use Rattle.mdcc_simulation.specs.Events.{after_event};
-ghost use Rattle.mdcc_language.specs.declared.events.Event.{Event as AEvent};
+ghost use Rattle.mdcc_def_protocol.specs.Belongs.{is_centre};
+ghost use Rattle.mdcc_def_simulation.specs.State.{World as AWorld, counted_event, is_up_at};
+ghost use Rattle.mdcc_def_simulation.specs.Centres.{crash_happened};
+ghost use Rattle.mdcc_def_simulation.specs.Events.{after_event};
+ghost use Rattle.mdcc_def_language.specs.declared.events.Event.{Event as AEvent};
 ghost use Rattle.mdcc_world.specs.Faults.{OnRefusal, is_free};
 ghost use Rattle.mdcc_world.specs.Represents.{Happens, HasHappened, IsLike, IsLikeSome};
-ghost use Rattle.mdcc_worlds.specs.EventEffects.{at_restart, restarted};
+ghost use Rattle.mdcc_theorem_worlds.specs.EventEffects.{at_restart, restarted};
 
 use crate::world::World;
 use mdcc_base::{Centre, HeapList, Memory};
-use mdcc_language::{EventFault, LimitName, Line};
+use mdcc_def_language::{EventFault, LimitName, Line};
 use mdcc_log::LOG_LIMIT;
-use mdcc_logs::{CentreFacts, Started};
 use mdcc_node::Node;
+use mdcc_world_logs::{CentreFacts, Started};
 
 impl World {
     // A centre goes down. A stop that was armed there is armed no more.

@@ -1,20 +1,20 @@
 //! Messages come to their centres.
 ghost use Rattle.std.specs.Prelude.{◌≡◌, ◌≤◌, ◌<◌, ◌+◌, ◌++◌, IfErr, Ok, OnErr, OnOk, true};
-ghost use Rattle.mdcc_simulation.specs.State.{World as AWorld};
-ghost use Rattle.mdcc_simulation.specs.Left.{deliveries_before};
-ghost use Rattle.mdcc_simulation.specs.Deliveries.{after_deliveries, after_delivery};
-ghost use Rattle.mdcc_language.specs.declared.events.Event.{Event as AEvent};
+ghost use Rattle.mdcc_def_simulation.specs.State.{World as AWorld};
+ghost use Rattle.mdcc_def_simulation.specs.Left.{deliveries_before};
+ghost use Rattle.mdcc_def_simulation.specs.Deliveries.{after_deliveries, after_delivery};
+ghost use Rattle.mdcc_def_language.specs.declared.events.Event.{Event as AEvent};
 ghost use Rattle.mdcc_world.specs.Limited.{OnLimit};
 ghost use Rattle.mdcc_world.specs.CutShort.{IsCutShort};
-ghost use Rattle.mdcc_world.specs.Faults.{OnMemory, OnRefusal, is_free};
+ghost use Rattle.mdcc_world.specs.Faults.{OnEventMemory, OnRefusal, is_free};
 ghost use Rattle.mdcc_world.specs.Represents.{Happens, HasHappened, IsLike, IsLikeSome};
-ghost use Rattle.mdcc_worlds.specs.DeliveryProgress.{at_message, after_numbered_message, delivery_reported, unmoved};
-ghost use Rattle.mdcc_worlds.specs.EventEffects.{at_centre};
+ghost use Rattle.mdcc_theorem_worlds.specs.DeliveryProgress.{at_message, after_numbered_message, delivery_reported, unmoved};
+ghost use Rattle.mdcc_theorem_worlds.specs.EventEffects.{at_centre};
 
 use crate::report::report_event;
 use crate::world::World;
 use mdcc_base::{Centre, HeapList};
-use mdcc_language::{EventFault, Line};
+use mdcc_def_language::{EventFault, Line};
 use mdcc_node::blank;
 
 impl World {
@@ -115,7 +115,7 @@ impl World {
         ensures limited { (w : AWorld) → IsLike self.old w
             → OnLimit result (lines.new ≡ lines.old ++ (deliveries_before numbers.now (unmoved w)).lines) }
         ensures cut { (w : AWorld) → IsLike self.old w
-            → OnMemory result (IsCutShort self.new lines.old lines.new w (AEvent.Deliver numbers.now)) }
+            → OnEventMemory result (IsCutShort self.new lines.old lines.new w (AEvent.Deliver numbers.now)) }
     {
         for number in numbers {
             self.deliver_at(*number, lines)?;

@@ -1,18 +1,18 @@
 //! One event of each kind.
 ghost use Rattle.std.specs.Bool.{OnFalse};
 ghost use Rattle.std.specs.Prelude.{◌≡◌, ◌≤◌, ◌++◌, Err, IfErr, IsOkAnd, OnOk};
-ghost use Rattle.mdcc_simulation.specs.State.{World as AWorld};
-ghost use Rattle.mdcc_simulation.specs.Events.{after_event};
-ghost use Rattle.mdcc_simulation.specs.Left.{left_of};
+ghost use Rattle.mdcc_def_simulation.specs.State.{World as AWorld};
+ghost use Rattle.mdcc_def_simulation.specs.Events.{after_event};
+ghost use Rattle.mdcc_def_simulation.specs.Left.{left_of};
 ghost use Rattle.mdcc_world.specs.Limited.{OnLimit, lines_reported};
 ghost use Rattle.mdcc_world.specs.CutShort.{IsCutShort};
-ghost use Rattle.mdcc_world.specs.Faults.{OnMemory, OnRefusal};
+ghost use Rattle.mdcc_world.specs.Faults.{OnEventMemory, OnRefusal};
 ghost use Rattle.mdcc_world.specs.Represents.{Happens, HasHappened, IsLike, IsLikeSome, RepresentsWorld};
-ghost use Rattle.mdcc_simulation.specs.Limits.{is_out_of_memory};
+ghost use Rattle.mdcc_def_simulation.specs.Limits.{is_out_of_memory};
 
 use crate::world::World;
 use mdcc_base::HeapList;
-use mdcc_language::{Event, EventFault, Line};
+use mdcc_def_language::{Event, EventFault, Line};
 
 impl World {
     // An event of each kind.
@@ -28,7 +28,7 @@ impl World {
         ensures limited { (w : AWorld) → IsLike self.old w
             → OnLimit result (lines.new ≡ lines.old ++ lines_reported w event.now) }
         ensures cut { (w : AWorld) → IsLike self.old w
-            → OnMemory result (IsCutShort self.new lines.old lines.new w event.now) }
+            → OnEventMemory result (IsCutShort self.new lines.old lines.new w event.now) }
     {
         match event {
             Event::Read(centre, key) => self.read(*centre, key, lines),
@@ -60,7 +60,7 @@ impl World {
         ensures limited { (w : AWorld) → RepresentsWorld self.old w
             → OnLimit result (lines.new ≡ lines.old ++ lines_reported w event.now) }
         ensures cut { (w : AWorld) → RepresentsWorld self.old w
-            → OnMemory result (IsCutShort self.new lines.old lines.new w event.now) }
+            → OnEventMemory result (IsCutShort self.new lines.old lines.new w event.now) }
     {
         self.happen(event, lines)
     }

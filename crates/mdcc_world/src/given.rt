@@ -1,9 +1,9 @@
 //! What the types of words say of their values.
 ghost use Rattle.std.specs.List.{AllByRecursion};
 ghost use Rattle.std.specs.Prelude.{◌<◌, ◌^◌};
-ghost use Rattle.mdcc_worlds.specs.Words.{HasBody, IsGivenWord};
+ghost use Rattle.mdcc_theorem_worlds.specs.Words.{HasBody, IsGivenWord};
 
-use mdcc_language::UpdateWord;
+use mdcc_def_language::UpdateWord;
 use mdcc_option::Item;
 
 // Bytes are below 256.

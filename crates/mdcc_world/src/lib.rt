@@ -18,6 +18,6 @@ mod stops;
 mod ticks;
 pub mod world;
 
+pub use mdcc_def_language::{EventFault, LimitName};
 pub use mdcc_disks::MemoryDisks;
-pub use mdcc_language::{EventFault, LimitName};
 pub use world::World;

@@ -2,25 +2,25 @@
 ghost use Rattle.std.specs.Prelude.{◌≡◌, ◌≤◌, ◌<◌, ◌+◌, ◌++◌, IfOk, List, Ok, OnOk, false, true, ℕ};
 ghost use Rattle.mdcc_base.specs.Sizes.{Sizes};
 ghost use Rattle.mdcc_option.specs.declared.items.Part.{Part as APart};
-ghost use Rattle.mdcc_outcomes.specs.Represents.{RepresentsLedger};
-ghost use Rattle.mdcc_ledger.specs.Ledger.{Entry};
-ghost use Rattle.mdcc_simulation.specs.State.{World as AWorld, counted_event, is_up_at};
-ghost use Rattle.mdcc_rules.specs.declared.node.Input.{Input as AInput};
-ghost use Rattle.mdcc_steps.specs.Inputs.{AreWellFormedParts, IsWellFormedInput};
-ghost use Rattle.mdcc_steps.specs.NodeInvariant.{accept_length_in};
-ghost use Rattle.mdcc_node.specs.StepPlans.{blank, written};
+ghost use Rattle.mdcc_world_decisions.specs.Represents.{RepresentsLedger};
+ghost use Rattle.mdcc_def_ledger.specs.Ledger.{Entry};
+ghost use Rattle.mdcc_def_simulation.specs.State.{World as AWorld, counted_event, is_up_at};
+ghost use Rattle.mdcc_def_rules.specs.declared.node.Input.{Input as AInput};
+ghost use Rattle.mdcc_theorem_node_steps.specs.Inputs.{AreWellFormedParts, IsWellFormedInput};
+ghost use Rattle.mdcc_theorem_node_steps.specs.NodeInvariant.{accept_length_in};
+ghost use Rattle.mdcc_node.specs.StepPlans.{blank, unless_refused};
 ghost use Rattle.mdcc_world.specs.NodeRuns.{HasRun, HasRunMessage};
 ghost use Rattle.mdcc_world.specs.Represents.{IsLike, IsLikeSome};
 ghost use Rattle.mdcc_world.specs.Report.{begun_entries, begun_tx};
-ghost use Rattle.mdcc_worlds.specs.DeliveryProgress.{at_message};
-ghost use Rattle.mdcc_worlds.specs.StepSends.{is_begin};
+ghost use Rattle.mdcc_theorem_worlds.specs.DeliveryProgress.{at_message};
+ghost use Rattle.mdcc_theorem_worlds.specs.StepSends.{is_begin_input};
 
 use crate::nodes::{act_on, receive};
 use crate::world::World;
 use mdcc_base::{Centre, Memory, TxId};
+use mdcc_def_rules::{Answer, Input, Step, StepFault};
 use mdcc_option::Transaction;
-use mdcc_outcomes::Decisions;
-use mdcc_rules::{Answer, Input, Step, StepFault};
+use mdcc_world_decisions::Decisions;
 
 // The transaction that was begun.
 fn begun_tx(answer: &Option<Answer>) -> Option<TxId>
@@ -68,14 +68,14 @@ impl World {
         step: &mut Step,
     ) -> Result<Result<(), StepFault>, Memory>
         requires formed { IsWellFormedInput input.now }
-        requires other { is_begin input.now ≡ false }
+        requires other { is_begin_input input.now ≡ false }
         requires short { accept_length_in input.now ≤ 2097152 }
         requires blank { step.old ≡ blank }
         requires few { self.old.events < 100000 }
         requires like { IsLikeSome self.old }
         requires up { (w : AWorld) → IsLike self.old w → is_up_at w centre ≡ true }
         ensures made { (w : AWorld) → IsLike self.old w
-            → IfOk result (λ made. HasRun self.new (counted_event w) centre input.now (written made step.new)) }
+            → IfOk result (λ made. HasRun self.new (counted_event w) centre input.now (unless_refused made step.new)) }
         ensures few { self.new.events ≤ self.old.events + 1 }
     {
         self.events += 1;
@@ -119,7 +119,7 @@ impl World {
         requires like { IsLikeSome self.old }
         requires clear { (w : AWorld) → IsLike self.old w → at_message w number ≡ Ok tt }
         ensures made { (w : AWorld) → IsLike self.old w
-            → IfOk result (λ r. HasRunMessage self.new w number r.0 (written r.1 step.new)) }
+            → IfOk result (λ r. HasRunMessage self.new w number r.0 (unless_refused r.1 step.new)) }
         ensures few { self.new.events ≤ self.old.events + 1 }
     {
         if !self

@@ -1,23 +1,23 @@
 //! The nodes of a world.
 ghost use Rattle.std.specs.Prelude.{◌≡◌, ◌≤◌, IfOk, OnOk, false, length, true};
-ghost use Rattle.mdcc_node.specs.StepPlans.{blank, written};
+ghost use Rattle.mdcc_node.specs.StepPlans.{blank, unless_refused};
 ghost use Rattle.mdcc_node.specs.StepAnswers.{step_result};
-ghost use Rattle.mdcc_rules.specs.declared.node.Input.{Input as AInput};
-ghost use Rattle.mdcc_ledger.specs.Ledger.{facts_of};
-ghost use Rattle.mdcc_protocol.specs.Visible;
-ghost use Rattle.mdcc_simulation.specs.State.{World as AWorld, is_up_at};
-ghost use Rattle.mdcc_simulation.specs.AppliedSteps.{input_happened, step_at};
-ghost use Rattle.mdcc_steps.specs.NodeInvariant.{accept_length_in};
-ghost use Rattle.mdcc_steps.specs.Inputs.{IsWellFormedInput};
+ghost use Rattle.mdcc_def_rules.specs.declared.node.Input.{Input as AInput};
+ghost use Rattle.mdcc_def_ledger.specs.Ledger.{facts_of};
+ghost use Rattle.mdcc_def_protocol.specs.Visible;
+ghost use Rattle.mdcc_def_simulation.specs.State.{World as AWorld, is_up_at};
+ghost use Rattle.mdcc_def_simulation.specs.AppliedSteps.{input_happened, step_at};
+ghost use Rattle.mdcc_theorem_node_steps.specs.NodeInvariant.{accept_length_in};
+ghost use Rattle.mdcc_theorem_node_steps.specs.Inputs.{IsWellFormedInput};
 ghost use Rattle.mdcc_world.specs.Nodes.{NodesRepresent, RunsAt, is_memory_run};
-ghost use Rattle.mdcc_worlds.specs.WorldInvariant.{IsWorld};
+ghost use Rattle.mdcc_theorem_worlds.specs.WorldInvariant.{IsWorld};
 
 use mdcc_base::{Centre, Key, Memory};
-use mdcc_logs::CentreFacts;
-use mdcc_messages::Envelope;
+use mdcc_def_messages::Envelope;
+use mdcc_def_protocol::Reading;
+use mdcc_def_rules::{Answer, Input, Step, StepFault};
 use mdcc_node::{Node, blank};
-use mdcc_protocol::Reading;
-use mdcc_rules::{Answer, Input, Step, StepFault};
+use mdcc_world_logs::CentreFacts;
 use std::alloc::Global;
 
 // Tells want of memory from what a node makes of an input.
@@ -44,7 +44,7 @@ pub(crate) fn act_on(
     requires running { RunsAt nodes.old centre }
     requires blank { step.old ≡ blank }
     ensures answer { (w : AWorld) → NodesRepresent nodes.old w → is_up_at w centre ≡ true
-        → IfOk result (λ made. written made step.new ≡ step_result (step_at w centre input.now)) }
+        → IfOk result (λ made. unless_refused made step.new ≡ step_result (step_at w centre input.now)) }
     ensures left { (w : AWorld) → IsWorld w → NodesRepresent nodes.old w → is_up_at w centre ≡ true
         → OnOk result (NodesRepresent nodes.new (input_happened w centre (step_at w centre input.now)).world) }
 {
@@ -64,7 +64,7 @@ pub(crate) fn receive(
     requires running { RunsAt nodes.old centre }
     requires blank { step.old ≡ blank }
     ensures answer { (w : AWorld) → NodesRepresent nodes.old w → is_up_at w centre ≡ true
-        → IfOk result (λ made. written made step.new ≡ step_result (step_at w centre (AInput.Message envelope.now))) }
+        → IfOk result (λ made. unless_refused made step.new ≡ step_result (step_at w centre (AInput.Message envelope.now))) }
     ensures left { (w : AWorld) → IsWorld w → NodesRepresent nodes.old w → is_up_at w centre ≡ true
         → OnOk result (NodesRepresent nodes.new (input_happened w centre (step_at w centre (AInput.Message envelope.now))).world) }
 {

@@ -1,19 +1,19 @@
 //! Reads.
 ghost use Rattle.std.specs.Prelude.{◌≡◌, ◌≤◌, ◌<◌, OnErr, OnOk, true};
 ghost use Rattle.mdcc_base.specs.Key.{IsKey};
-ghost use Rattle.mdcc_simulation.specs.State.{World as AWorld, counted_event, is_up_at};
-ghost use Rattle.mdcc_simulation.specs.Events.{after_event};
-ghost use Rattle.mdcc_simulation.specs.Clients.{known_of_reading, read_happened};
-ghost use Rattle.mdcc_language.specs.declared.events.Event.{Event as AEvent};
+ghost use Rattle.mdcc_def_simulation.specs.State.{World as AWorld, counted_event, is_up_at};
+ghost use Rattle.mdcc_def_simulation.specs.Events.{after_event};
+ghost use Rattle.mdcc_def_simulation.specs.Clients.{known_of_reading, read_happened};
+ghost use Rattle.mdcc_def_language.specs.declared.events.Event.{Event as AEvent};
 ghost use Rattle.mdcc_world.specs.Faults.{OnRefusal};
 ghost use Rattle.mdcc_world.specs.Represents.{Happens, HasHappened, IsLike, IsLikeSome};
 
 use crate::nodes::read;
 use crate::world::World;
 use mdcc_base::{Centre, HeapList, Key, Memory, Plain};
-use mdcc_language::{EventFault, Line};
+use mdcc_def_language::{EventFault, Line};
+use mdcc_def_protocol::Reading;
 use mdcc_option::Known;
-use mdcc_protocol::Reading;
 
 // What a read shows of a key.
 fn known_of(key: &Key, reading: Reading) -> Known

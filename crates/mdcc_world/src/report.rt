@@ -1,11 +1,11 @@
 //! Lines of the report, one behind the other.
 ghost use Rattle.std.specs.Prelude.{◌≡◌, ◌++◌, ◌∷◌, IfErr, OnErr, OnOk};
-ghost use Rattle.mdcc_language.specs.declared.world.EventFault.{EventFault as AFault};
+ghost use Rattle.mdcc_def_language.specs.declared.world.EventFault.{EventFault as AFault};
 ghost use Rattle.mdcc_world.specs.Report.{lines_begun};
 
 use mdcc_base::{HeapList, Memory, Plain};
-use mdcc_language::{EventFault, Line};
-use mdcc_rules::Answer;
+use mdcc_def_language::{EventFault, Line};
+use mdcc_def_rules::Answer;
 use std::alloc::Global;
 use std::mem;
 

@@ -1,23 +1,23 @@
 //! Settle lines: messages are delivered until none waits.
 ghost use Rattle.std.specs.List.{list_any};
 ghost use Rattle.std.specs.Prelude.{◌≡◌, ◌≤◌, ◌<◌, ◌==◌, ◌&&◌, ◌-◌, ◌+◌, ◌++◌, IfErr, IfOk, IfSome, List, Ok, OnErr, OnOk, false, get_or, true};
-ghost use Rattle.mdcc_simulation.specs.State.{World as AWorld};
-ghost use Rattle.mdcc_simulation.specs.Events.{after_event};
-ghost use Rattle.mdcc_language.specs.declared.events.Event.{Event as AEvent};
-ghost use Rattle.mdcc_language.specs.declared.lines.Line.{Line as ALine};
-ghost use Rattle.mdcc_simulation.specs.Left.{left_of};
+ghost use Rattle.mdcc_def_simulation.specs.State.{World as AWorld};
+ghost use Rattle.mdcc_def_simulation.specs.Events.{after_event};
+ghost use Rattle.mdcc_def_language.specs.declared.events.Event.{Event as AEvent};
+ghost use Rattle.mdcc_def_language.specs.declared.lines.Line.{Line as ALine};
+ghost use Rattle.mdcc_def_simulation.specs.Left.{left_of};
 ghost use Rattle.mdcc_world.specs.Limited.{OnLimit, lines_reported};
 ghost use Rattle.mdcc_world.specs.CutShort.{IsCutShort};
-ghost use Rattle.mdcc_world.specs.Faults.{OnMemory, is_free};
+ghost use Rattle.mdcc_world.specs.Faults.{OnEventMemory, is_free};
 ghost use Rattle.mdcc_world.specs.SettleEnd.{AreAsked, IsNext, SettlesTo, is_listed_centre};
 ghost use Rattle.mdcc_world.specs.Represents.{Happens, HasHappened, IsLike, IsLikeSome};
-ghost use Rattle.mdcc_worlds.specs.DeliveryProgress.{at_message, after_numbered_message};
-ghost use Rattle.mdcc_worlds.specs.SettleProgress.{settle_reported};
+ghost use Rattle.mdcc_theorem_worlds.specs.DeliveryProgress.{at_message, after_numbered_message};
+ghost use Rattle.mdcc_theorem_worlds.specs.SettleProgress.{settle_reported};
 
 use crate::report::append;
 use crate::world::{MOST_EVENTS, World};
 use mdcc_base::{Centre, HeapList, Memory};
-use mdcc_language::{EventFault, LimitName, Line};
+use mdcc_def_language::{EventFault, LimitName, Line};
 
 // Whether a centre is listed.
 fn is_listed(listed: &[Centre], centre: Centre) -> bool
@@ -103,7 +103,7 @@ impl World {
             → OnLimit result (lines.new ≡ before ++ (left_of w (AEvent.Settle listed.now)).lines) }
         ensures cut { (w : AWorld) (before : List ALine)
             → w.events < 100000 → HasHappened self.old before lines.old (settle_reported w listed.now)
-            → OnMemory result (IsCutShort self.new before lines.new w (AEvent.Settle listed.now)) }
+            → OnEventMemory result (IsCutShort self.new before lines.new w (AEvent.Settle listed.now)) }
     {
         let left = MOST_EVENTS - self.events;
         for deliveries in 0..left {
@@ -150,7 +150,7 @@ impl World {
             → OnLimit result (lines.new ≡ before ++ (left_of w (AEvent.Settle listed.now)).lines) }
         ensures cut { (w : AWorld) (before : List ALine)
             → w.events < 100000 → HasHappened self.old before lines.old (settle_reported w listed.now)
-            → OnMemory result (IsCutShort self.new before lines.new w (AEvent.Settle listed.now)) }
+            → OnEventMemory result (IsCutShort self.new before lines.new w (AEvent.Settle listed.now)) }
     {
         let deliveries = self.settle_for(listed, lines)?;
         lines.push(Line::Settled(deliveries, self.next_message()))?;
@@ -171,7 +171,7 @@ impl World {
         ensures limited { (w : AWorld) → IsLike self.old w
             → OnLimit result (lines.new ≡ lines.old ++ lines_reported w (AEvent.Settle listed.now)) }
         ensures cut { (w : AWorld) → IsLike self.old w
-            → OnMemory result (IsCutShort self.new lines.old lines.new w (AEvent.Settle listed.now)) }
+            → OnEventMemory result (IsCutShort self.new lines.old lines.new w (AEvent.Settle listed.now)) }
     {
         self.at_limit()?;
         self.settle_begun(listed, lines)?;

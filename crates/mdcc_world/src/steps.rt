@@ -2,37 +2,37 @@
 ghost use Rattle.std.specs.Prelude.{◌≡◌, ◌≤◌, ◌<◌, ◌+◌, ◌-◌, ◌^◌, ◌++◌, ◌∷◌, [], Bool, Err, IfErr, List, None, Ok, OnOk, Some, get_or, length, map, set, false, true, ℕ};
 ghost use Rattle.mdcc_base.specs.Sizes.{Sizes};
 ghost use Rattle.mdcc_base.specs.declared.outside.Image.{Image as AnImage};
-ghost use Rattle.mdcc_language.specs.declared.lines.Line.{Line as ALine};
-ghost use Rattle.mdcc_logs.specs.Represents.{LogsRepresent, with_up};
-ghost use Rattle.mdcc_logs.specs.Tails.{HasTail, tail_at};
-ghost use Rattle.mdcc_outcomes.specs.Represents.{RepresentsLedger};
-ghost use Rattle.mdcc_ledger.specs.Ledger.{Entry};
-ghost use Rattle.mdcc_messages.specs.Lengths.{messages_length};
-ghost use Rattle.mdcc_messages.specs.WellFormed.{IsWellFormedFact};
-ghost use Rattle.mdcc_simulation.specs.State.{World as AWorld};
-ghost use Rattle.mdcc_simulation.specs.Limits.{passed_bytes_limit, input_limited, passed_log_limit, unless_limit};
-ghost use Rattle.mdcc_simulation.specs.AppliedSteps.{step_at};
-ghost use Rattle.mdcc_messages.specs.Mailbox.{unsent};
-ghost use Rattle.mdcc_messages.specs.declared.facts.Fact.{Fact as AFact};
-ghost use Rattle.mdcc_rules.specs.declared.node.Input.{Input as AInput};
+ghost use Rattle.mdcc_def_language.specs.declared.lines.Line.{Line as ALine};
+ghost use Rattle.mdcc_world_logs.specs.Represents.{LogsRepresent, with_up};
+ghost use Rattle.mdcc_world_logs.specs.Tails.{HasTail, tail_at};
+ghost use Rattle.mdcc_world_decisions.specs.Represents.{RepresentsLedger};
+ghost use Rattle.mdcc_def_ledger.specs.Ledger.{Entry};
+ghost use Rattle.mdcc_def_messages.specs.Lengths.{messages_length};
+ghost use Rattle.mdcc_def_messages.specs.WellFormed.{IsWellFormedFact};
+ghost use Rattle.mdcc_def_simulation.specs.State.{World as AWorld};
+ghost use Rattle.mdcc_def_simulation.specs.Limits.{passed_bytes_limit, input_limited, passed_log_limit, unless_limit};
+ghost use Rattle.mdcc_def_simulation.specs.AppliedSteps.{step_at};
+ghost use Rattle.mdcc_def_messages.specs.Mailbox.{unsent};
+ghost use Rattle.mdcc_def_messages.specs.declared.facts.Fact.{Fact as AFact};
+ghost use Rattle.mdcc_def_rules.specs.declared.node.Input.{Input as AInput};
 ghost use Rattle.mdcc_world.specs.Faults.{is_free};
-ghost use Rattle.mdcc_world.specs.StepOutputs.{Measures, IsFormed, IsFramed, MayAppendFact, facts_with, tail_with};
-ghost use Rattle.mdcc_node.specs.StepPlans.{written};
+ghost use Rattle.mdcc_world.specs.StepOutputs.{Measures, IsFormed, IsFramed, MayAppendFact, facts_with, tail_with_new_fact};
+ghost use Rattle.mdcc_node.specs.StepPlans.{unless_refused};
 ghost use Rattle.mdcc_world.specs.NodeRuns.{HasRun, HasRunSome};
 ghost use Rattle.mdcc_world.specs.Represents.{Happens};
-ghost use Rattle.mdcc_world.specs.StoppedAppend.{IsWhole, kept_entries, kept_lines};
-ghost use Rattle.mdcc_worlds.specs.StepEffects.{limit_passed, step_lines, ledger_with_fact};
-ghost use Rattle.mdcc_logs.specs.Stopping.{stopped_facts};
-ghost use Rattle.mdcc_simulation.specs.Checkpoints.{is_checkpoint_kept, is_due_after, is_frame_kept, striking_at, tail_stopped};
+ghost use Rattle.mdcc_world.specs.StoppedAppend.{IsWholeStep, kept_entries, kept_lines};
+ghost use Rattle.mdcc_theorem_worlds.specs.StepEffects.{limit_passed, step_lines, ledger_with_fact};
+ghost use Rattle.mdcc_world_logs.specs.Stopping.{stopped_facts};
+ghost use Rattle.mdcc_def_simulation.specs.Checkpoints.{is_checkpoint_kept, is_due_after, is_frame_kept, striking_at, tail_stopped};
 
 use crate::commits::{count_kept, persist_then_send, push_dropped, report_fact};
 use crate::world::World;
 use mdcc_base::{Centre, HeapList, Image, Memory};
-use mdcc_language::{EventFault, LimitName, Line};
+use mdcc_def_language::{EventFault, LimitName, Line};
+use mdcc_def_messages::Fact;
+use mdcc_def_rules::{Step, StepFault};
 use mdcc_log::LOG_LIMIT;
-use mdcc_mail::MessageBatch;
-use mdcc_messages::Fact;
-use mdcc_rules::{Step, StepFault};
+use mdcc_world_mail::MessageBatch;
 
 // The device call in which a stop of this number falls: an append has four, and the checkpoint behind it seven.
 fn in_append(call: u8) -> u8
@@ -107,7 +107,7 @@ impl World {
         ensures logs { (centres : ℕ) (up : ℕ → Bool) (facts : ℕ → List AFact) → LogsRepresent self.old.logs centres up facts → up centre ≡ true
             → OnOk result (LogsRepresent self.new.logs centres up (facts_with facts centre fact.now)) }
         ensures tail { (centres : ℕ) (up : ℕ → Bool) (facts : ℕ → List AFact) → LogsRepresent self.old.logs centres up facts → up centre ≡ true
-            → OnOk result (HasTail self.old.logs self.new.logs centre (tail_with (tail_at self.old.logs centre) fact.now)) }
+            → OnOk result (HasTail self.old.logs self.new.logs centre (tail_with_new_fact (tail_at self.old.logs centre) fact.now)) }
         ensures sent { OnOk result (self.new.network ≡ self.old.network ++ map unsent batch) }
         ensures bytes { OnOk result (self.new.bytes ≡ self.old.bytes + messages_length batch) }
         ensures ledger { (quorums : Sizes) (entries : List Entry) → RepresentsLedger self.old.decisions quorums entries
@@ -133,7 +133,7 @@ impl World {
     ) -> Result<(), EventFault>
         requires some { HasRunSome self.old centre (Ok step.now) }
         requires written { batch ≡ step.now.sends }
-        ensures happens { (w : AWorld) (input : AInput) → HasRun self.old w centre input (Ok step.now) → IsWhole w centre step.now.fact
+        ensures happens { (w : AWorld) (input : AInput) → HasRun self.old w centre input (Ok step.now) → IsWholeStep w centre step.now.fact
             → Happens self.new lines.old lines.new result (input_limited w centre (step_at w centre input)) }
         ensures free { IfErr result (λ fault. is_free fault ≡ true) }
         ensures events { self.new.events ≡ self.old.events }
@@ -151,7 +151,7 @@ impl World {
         lines: &mut HeapList<Line>,
     ) -> Result<(), EventFault>
         requires some { HasRunSome self.old centre (Ok step.now) }
-        ensures happens { (w : AWorld) (input : AInput) → HasRun self.old w centre input (Ok step.now) → IsWhole w centre step.now.fact
+        ensures happens { (w : AWorld) (input : AInput) → HasRun self.old w centre input (Ok step.now) → IsWholeStep w centre step.now.fact
             → Happens self.new lines.old lines.new result (input_limited w centre (step_at w centre input)) }
         ensures free { IfErr result (λ fault. is_free fault ≡ true) }
         ensures events { self.new.events ≡ self.old.events }
@@ -277,8 +277,8 @@ impl World {
         step: &Step,
         lines: &mut HeapList<Line>,
     ) -> Result<(), EventFault>
-        requires some { HasRunSome self.old centre (written made.now step.now) }
-        ensures happens { (w : AWorld) (input : AInput) → HasRun self.old w centre input (written made.now step.now)
+        requires some { HasRunSome self.old centre (unless_refused made.now step.now) }
+        ensures happens { (w : AWorld) (input : AInput) → HasRun self.old w centre input (unless_refused made.now step.now)
             → Happens self.new lines.old lines.new result (input_limited w centre (step_at w centre input)) }
         ensures free { IfErr result (λ fault. is_free fault ≡ true) }
         ensures events { self.new.events ≡ self.old.events }

@@ -1,20 +1,20 @@
 //! Appends and checkpoints that stop: the stop is armed, and a later step that brings a fact takes its centre down.
 ghost use Rattle.std.specs.Prelude.{◌≡◌, ◌≤◌, ◌<◌, ◌+◌, ◌-◌, IfErr, OnErr, OnOk, Result as AResult, length, true};
-ghost use Rattle.mdcc_language.specs.declared.events.Event.{Event as AEvent};
-ghost use Rattle.mdcc_simulation.specs.Centres.{stop_happened};
-ghost use Rattle.mdcc_simulation.specs.Events.{after_event};
-ghost use Rattle.mdcc_simulation.specs.State.{World as AWorld, counted_event, is_up_at};
-ghost use Rattle.mdcc_rules.specs.declared.node.Input.{Input as AInput};
-ghost use Rattle.mdcc_rules.specs.declared.node.Step.{Step as AStep};
-ghost use Rattle.mdcc_rules.specs.declared.node.StepFault.{StepFault as AStepFault};
-ghost use Rattle.mdcc_simulation.specs.Checkpoints.{striking_at};
+ghost use Rattle.mdcc_def_language.specs.declared.events.Event.{Event as AEvent};
+ghost use Rattle.mdcc_def_simulation.specs.Centres.{stop_happened};
+ghost use Rattle.mdcc_def_simulation.specs.Events.{after_event};
+ghost use Rattle.mdcc_def_simulation.specs.State.{World as AWorld, counted_event, is_up_at};
+ghost use Rattle.mdcc_def_rules.specs.declared.node.Input.{Input as AInput};
+ghost use Rattle.mdcc_def_rules.specs.declared.node.Step.{Step as AStep};
+ghost use Rattle.mdcc_def_rules.specs.declared.node.StepFault.{StepFault as AStepFault};
+ghost use Rattle.mdcc_def_simulation.specs.Checkpoints.{striking_at};
 ghost use Rattle.mdcc_world.specs.Faults.{OnRefusal};
 ghost use Rattle.mdcc_world.specs.NodeRuns.{HasRun};
 ghost use Rattle.mdcc_world.specs.Represents.{Happens, HasHappened, IsLike, IsLikeSome};
 
 use crate::world::World;
 use mdcc_base::{Centre, HeapList, Image, Memory};
-use mdcc_language::{EventFault, Line};
+use mdcc_def_language::{EventFault, Line};
 
 impl World {
     // The stop that is armed at a centre, where it strikes in the next append: inside that, or inside the checkpoint that is due then.

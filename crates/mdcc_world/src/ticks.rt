@@ -1,13 +1,13 @@
 //! Ticks and sweeps.
 ghost use Rattle.std.specs.Prelude.{◌≡◌, ◌≤◌, ◌<◌, IfErr, OnErr, OnOk, true};
-ghost use Rattle.mdcc_simulation.specs.State.{World as AWorld};
-ghost use Rattle.mdcc_simulation.specs.Events.{after_event};
-ghost use Rattle.mdcc_simulation.specs.Limits.{input_limited, with_lines};
-ghost use Rattle.mdcc_simulation.specs.AppliedSteps.{step_at};
-ghost use Rattle.mdcc_language.specs.declared.events.Event.{Event as AEvent};
-ghost use Rattle.mdcc_rules.specs.declared.node.Input.{Input as AInput};
+ghost use Rattle.mdcc_def_simulation.specs.State.{World as AWorld};
+ghost use Rattle.mdcc_def_simulation.specs.Events.{after_event};
+ghost use Rattle.mdcc_def_simulation.specs.Limits.{input_limited, with_lines};
+ghost use Rattle.mdcc_def_simulation.specs.AppliedSteps.{step_at};
+ghost use Rattle.mdcc_def_language.specs.declared.events.Event.{Event as AEvent};
+ghost use Rattle.mdcc_def_rules.specs.declared.node.Input.{Input as AInput};
 ghost use Rattle.mdcc_world.specs.Faults.{OnRefusal, is_free};
-ghost use Rattle.mdcc_node.specs.StepPlans.{written};
+ghost use Rattle.mdcc_node.specs.StepPlans.{unless_refused};
 ghost use Rattle.mdcc_world.specs.NodeRuns.{HasRun, HasRunSome};
 ghost use Rattle.mdcc_world.specs.Represents.{Happens, IsLike, IsLikeSome};
 ghost use Rattle.mdcc_world.specs.Timed.{timed_line, timed_lines};
@@ -15,9 +15,9 @@ ghost use Rattle.mdcc_world.specs.Timed.{timed_line, timed_lines};
 use crate::report::report_event;
 use crate::world::World;
 use mdcc_base::{Centre, HeapList};
-use mdcc_language::{EventFault, Line};
+use mdcc_def_language::{EventFault, Line};
+use mdcc_def_rules::{Input, Step, StepFault};
 use mdcc_node::blank;
-use mdcc_rules::{Input, Step, StepFault};
 
 // The line of a tick or a sweep.
 fn timed_line(sweeps: bool, centre: Centre, next: u32) -> Line
@@ -40,8 +40,8 @@ impl World {
         step: &Step,
         lines: &mut HeapList<Line>,
     ) -> Result<(), EventFault>
-        requires some { HasRunSome self.old centre (written made.now step.now) }
-        ensures happens { (w : AWorld) (input : AInput) → HasRun self.old w centre input (written made.now step.now)
+        requires some { HasRunSome self.old centre (unless_refused made.now step.now) }
+        ensures happens { (w : AWorld) (input : AInput) → HasRun self.old w centre input (unless_refused made.now step.now)
             → Happens self.new lines.old lines.new result (with_lines (timed_lines sweeps centre) (input_limited w centre (step_at w centre input))) }
         ensures free { IfErr result (λ fault. is_free fault ≡ true) }
         ensures events { self.new.events ≡ self.old.events }

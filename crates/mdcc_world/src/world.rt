@@ -1,22 +1,22 @@
 //! A world: the nodes of a cluster, their logs on disks in memory, the messages between them, and what happens to them.
 ghost use Rattle.std.specs.Prelude.{◌≡◌, ◌≤◌, ◌<◌, ◌+◌, ◌-◌, IfErr, IfOk, OnOk, get_or, length, nat_le, true, false, ℕ};
-ghost use Rattle.mdcc_protocol.specs.IsCluster.{IsCluster};
-ghost use Rattle.mdcc_simulation.specs.State.{World as AWorld, first_world, is_up_at};
-ghost use Rattle.mdcc_simulation.specs.Runs.{end_line};
+ghost use Rattle.mdcc_def_protocol.specs.IsCluster.{IsCluster};
+ghost use Rattle.mdcc_def_simulation.specs.State.{World as AWorld, first_world, is_up_at};
+ghost use Rattle.mdcc_def_simulation.specs.Runs.{end_line};
 ghost use Rattle.mdcc_world.specs.Disks.{DisksShow};
 ghost use Rattle.mdcc_world.specs.Faults.{is_free};
 ghost use Rattle.mdcc_world.specs.Represents.{IsLike, RepresentsWorld};
-ghost use Rattle.mdcc_worlds.specs.EventEffects.{at_centre, at_limit};
+ghost use Rattle.mdcc_theorem_worlds.specs.EventEffects.{at_centre, at_limit};
 
 use mdcc_base::{Centre, HeapList, Image, Memory};
+use mdcc_def_language::{EventFault, LimitName, Line};
+use mdcc_def_messages::Envelope;
 use mdcc_disks::MemoryDisks;
-use mdcc_language::{EventFault, LimitName, Line};
-use mdcc_logs::{CentreFacts, Logs, boot_all};
-use mdcc_mail::{Network, empty_envelope};
-use mdcc_messages::Envelope;
 use mdcc_node::Node;
 use mdcc_option::{Cluster, Known};
-use mdcc_outcomes::Decisions;
+use mdcc_world_decisions::Decisions;
+use mdcc_world_logs::{CentreFacts, Logs, boot_all};
+use mdcc_world_mail::{Network, empty_envelope};
 use std::alloc::Global;
 
 /// How many events there may be.

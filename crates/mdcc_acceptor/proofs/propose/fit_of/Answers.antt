@@ -1,5 +1,5 @@
 use Rattle.std.proofs.Common.{◌≡◌, true}
-use Rattle.mdcc_protocol.specs.Facts.{live_of}
+use Rattle.mdcc_def_protocol.specs.Facts.{live_of}
 use Rattle.mdcc_escrow.specs.Sums.{IsBoundedLoad}
 use Rattle.mdcc_acceptor.proofs.propose.fit_of.Goals as goal
 

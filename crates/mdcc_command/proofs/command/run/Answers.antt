@@ -3,17 +3,17 @@ use Rattle.std.proofs.Common.{◌≡◌, ◌∙◌, Err, Result, inl, inr, map, 
 use Rattle.std.specs.Io.KnownBytes.{Appends}
 use Rattle.std.specs.String.{string_bytes}
 use Rattle.mdcc_base.specs.declared.source.ReadAllFault.{ReadAllFault}
-use Rattle.mdcc_audit_command.specs.Audits.{some_calls}
-use Rattle.mdcc_check_command.proofs.Answered.{does_check, unanswered}
-use Rattle.mdcc_check_command.specs.Checks.{answer_to}
-use Rattle.mdcc_cli.specs.Commands.{command_of}
+use Rattle.mdcc_command_audit.specs.Audits.{some_calls}
+use Rattle.mdcc_command_check.proofs.Answered.{does_check, unanswered}
+use Rattle.mdcc_command_check.specs.Checks.{answer_to_input}
+use Rattle.mdcc_command_words.specs.Commands.{command_of}
 use Rattle.mdcc_command.proofs.NoMemory.{ended, known_always, memory_ends, names_no_disk, of_others}
 use Rattle.mdcc_command.specs.Commands.{output_for}
-use Rattle.mdcc_dump.proofs.Places.{opens_none, stays_unchanged}
-use Rattle.mdcc_endings.specs.Logs.{node_at}
-use Rattle.mdcc_endings.specs.declared.fault.Failure.{Failure}
-use Rattle.mdcc_replay.proofs.Fronts.{nothing_written}
-use Rattle.mdcc_replay.specs.Writing.{Tells}
+use Rattle.mdcc_command_dump.proofs.Places.{opens_none, stays_unchanged}
+use Rattle.mdcc_command_endings.specs.Logs.{node_booted_at}
+use Rattle.mdcc_command_endings.specs.declared.fault.Failure.{Failure}
+use Rattle.mdcc_command_replay.proofs.Fronts.{nothing_written}
+use Rattle.mdcc_command_replay.specs.Writing.{Tells}
 use Rattle.mdcc_command.proofs.command.run.Goals as goal
 
 pub returns-in-Err-clause-node : goal.returns-in-Err-clause-node
@@ -56,7 +56,7 @@ pub returns-in-Err-clause-check : goal.returns-in-Err-clause-check
 returns-in-Err-clause-check g c = λ is.
     known_always (g.S.Source.left c.args.source.now) _
     (λ input. does_check input c.end.result (g.O.Sink.held c.args.out.now) (g.O.Sink.held c.args.out.now) (g.E.Sink.held c.args.err.now) (g.E.Sink.held c.end.new.err) (g.E.Sink.faults c.args.err.now) (g.E.Sink.faults c.end.new.err)
-    (unanswered (answer_to input) c.end.result 10 (g.O.Sink.held c.args.out.now) (g.E.Sink.held c.args.err.now) (g.E.Sink.held c.end.new.err) (g.E.Sink.faults c.args.err.now) (g.E.Sink.faults c.end.new.err) refl c.end.ensures.status))
+    (unanswered (answer_to_input input) c.end.result 10 (g.O.Sink.held c.args.out.now) (g.E.Sink.held c.args.err.now) (g.E.Sink.held c.end.new.err) (g.E.Sink.faults c.args.err.now) (g.E.Sink.faults c.end.new.err) refl c.end.ensures.status))
 
 pub returns-in-Err-clause-audit : goal.returns-in-Err-clause-audit
 returns-in-Err-clause-audit g c = λ is. record {
@@ -85,19 +85,19 @@ returns-in-Err-clause-line g c =
 
 pub returns-in-Err-clause-node_log : goal.returns-in-Err-clause-node_log
 returns-in-Err-clause-node_log g c centre turns = λ is input config known read there told.
-    memory_ends (node_at g.D.Disks.disk config.cluster c.args.disks.now) centre centre c.end.result c.end.ensures.status
+    memory_ends (node_booted_at g.D.Disks.disk config.cluster c.args.disks.now) centre centre c.end.result c.end.ensures.status
 
 pub returns-in-Err-clause-cluster_logs : goal.returns-in-Err-clause-cluster_logs
 returns-in-Err-clause-cluster_logs g c turns = λ is input config known read told.
-    memory_ends (node_at g.D.Disks.disk config.cluster c.args.disks.now) 1 config.cluster.quorums.centres c.end.result c.end.ensures.status
+    memory_ends (node_booted_at g.D.Disks.disk config.cluster c.args.disks.now) 1 config.cluster.quorums.centres c.end.result c.end.ensures.status
 
 pub returns-in-Err-clause-dump_log : goal.returns-in-Err-clause-dump_log
 returns-in-Err-clause-dump_log g c centre = λ is input config known read there told.
-    memory_ends (node_at g.D.Disks.disk config.cluster c.args.disks.now) centre centre c.end.result c.end.ensures.status
+    memory_ends (node_booted_at g.D.Disks.disk config.cluster c.args.disks.now) centre centre c.end.result c.end.ensures.status
 
 pub returns-in-Err-clause-audit_logs : goal.returns-in-Err-clause-audit_logs
 returns-in-Err-clause-audit_logs g c = λ is input config known read told.
-    memory_ends (node_at g.D.Disks.disk config.cluster c.args.disks.now) 1 config.cluster.quorums.centres c.end.result c.end.ensures.status
+    memory_ends (node_booted_at g.D.Disks.disk config.cluster c.args.disks.now) 1 config.cluster.quorums.centres c.end.result c.end.ensures.status
 
 pub returns-in-Err-clause-node_completes : goal.returns-in-Err-clause-node_completes
 returns-in-Err-clause-node_completes g c centre turns = λ is source output link disks input config log known read there of are below. inr (inl c.end.ensures.status)

@@ -1,5 +1,5 @@
 use Rattle.std.proofs.Common.{◌≡◌, drop}
-use Rattle.mdcc_protocol.specs.Fit.{has_tx}
+use Rattle.mdcc_def_protocol.specs.Fit.{has_tx}
 use Rattle.mdcc_escrow.proofs.load.has_tx.Given as goal
 
 abbrev pub invariant-loop-other : goal.invariant-loop-other

@@ -1,7 +1,7 @@
 use Rattle.std.proofs.Common.{◌∙◌, ap}
 use Rattle.mdcc_base.specs.declared.identifiers.TxId.{TxId}
 use Rattle.mdcc_option.specs.declared.items.Update.{Update}
-use Rattle.mdcc_protocol.specs.Fit.{decrease, increase}
+use Rattle.mdcc_def_protocol.specs.Fit.{decrease, increase}
 use Rattle.mdcc_escrow.specs.Weights.{with_live}
 use Rattle.mdcc_escrow.proofs.Bounded.{sums_with-bounded}
 use Rattle.mdcc_escrow.proofs.Weighing.{load_more}

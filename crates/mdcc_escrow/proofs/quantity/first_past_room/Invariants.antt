@@ -1,5 +1,5 @@
 use Rattle.std.proofs.Common.{◌≡◌, drop}
-use Rattle.mdcc_protocol.specs.Fit.{first_number, is_past_room}
+use Rattle.mdcc_def_protocol.specs.Fit.{first_number, is_past_room}
 use Rattle.mdcc_escrow.proofs.quantity.first_past_room.Given as goal
 
 abbrev pub invariant-loop-quantity : goal.invariant-loop-quantity

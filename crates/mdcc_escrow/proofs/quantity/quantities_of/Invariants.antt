@@ -1,5 +1,5 @@
 use Rattle.std.proofs.Common.{◌≡◌, ◌+◌, length, take}
-use Rattle.mdcc_protocol.specs.Fit.{quantities_of}
+use Rattle.mdcc_def_protocol.specs.Fit.{quantities_of}
 use Rattle.mdcc_escrow.proofs.quantity.quantities_of.Given as goal
 
 abbrev pub invariant-loop-named : goal.invariant-loop-named

@@ -1,6 +1,6 @@
 use Rattle.std.proofs.Common.{◌≡◌, ℕ, ◌+◌, ◌<◌, ◌∙◌, Bool, false, length, ap, sym, arith}
 use Rattle.std.specs.Prelude.{not}
-use Rattle.mdcc_protocol.specs.Fit.{Quantity, increases_at, is_past_room}
+use Rattle.mdcc_def_protocol.specs.Fit.{Quantity, increases_at, is_past_room}
 use Rattle.mdcc_escrow.proofs.WithinRoom.{rest_passes}
 use Rattle.mdcc_escrow.proofs.taken.are_increases_within.Goals as goal
 

@@ -1,7 +1,7 @@
 use Rattle.std.proofs.Common.{◌≡◌, ◌+◌, ◌-◌, length, map}
 use Rattle.std.specs.Prelude.{not}
 use Rattle.std.specs.List.{list_all, range_with_len}
-use Rattle.mdcc_protocol.specs.Fit.{increases_at, is_past_room}
+use Rattle.mdcc_def_protocol.specs.Fit.{increases_at, is_past_room}
 use Rattle.mdcc_escrow.proofs.taken.are_increases_within.Given as goal
 
 abbrev pub invariant-loop-place : goal.invariant-loop-place

@@ -1,6 +1,6 @@
 use Rattle.std.proofs.Common.{◌≡◌, ◌∙◌, List, ℕ, ap, sym, arith}
 use Rattle.std.proofs.lemmas.Grind.{common_steps}
-use Rattle.mdcc_frag.specs.Joining.{step}
+use Rattle.mdcc_frag.specs.Joining.{join_step}
 use Rattle.mdcc_frag.specs.declared.joined.Joined.TheVariants.{Whole}
 use Rattle.mdcc_frag.specs.Partial.{with_piece}
 use Rattle.mdcc_frag.proofs.Entries.{first_alone, first_whole, first_kept}
@@ -8,7 +8,7 @@ use Rattle.mdcc_frag.proofs.joiner.begin.Goals as goal
 
 pub returns-then-is_whole-clause-taken : goal.returns-then-is_whole-clause-taken
 returns-then-is_whole-clause-taken c =
-    ap (λ bytes. step (Whole bytes) c.args.table.now.entries) c.into_bytes.ensures.bytes
+    ap (λ bytes. join_step (Whole bytes) c.args.table.now.entries) c.into_bytes.ensures.bytes
     ∙ first_whole c.args.piece.now c.args.bytes.now c.args.table.now.entries c.take.new.self c.requires.first
     (c.in_ok-take.ensures.taken ∙ ap (with_piece c.args.piece.now.index c.args.bytes.now) c.in_ok-partial.ensures)
     (sym c.if-is_whole.ensures)
@@ -23,5 +23,5 @@ pub returns-then-bytes-piece-clause-taken : goal.returns-then-bytes-piece-clause
 returns-then-bytes-piece-clause-taken c =
     let copied : c.extend_from_slice.new.self.items ≡ c.args.bytes.now =
     grind (arith, common_steps, c.in_ok-extend_from_slice.ensures.items, c.new-whole.ensures.items) in
-    ap (λ (bytes : List ℕ). step (Whole bytes) c.args.table.now.entries) (c.from_vec.ensures ∙ copied)
+    ap (λ (bytes : List ℕ). join_step (Whole bytes) c.args.table.now.entries) (c.from_vec.ensures ∙ copied)
     ∙ first_alone c.args.piece.now c.args.bytes.now c.args.table.now.entries c.requires.first c.requires.fits (omega (arith, c.if-bytes-piece.true))

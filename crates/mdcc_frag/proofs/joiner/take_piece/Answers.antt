@@ -1,5 +1,5 @@
 use Rattle.std.proofs.Common.{◌∙◌, ap, sym}
-use Rattle.mdcc_frag.specs.Joining.{step}
+use Rattle.mdcc_frag.specs.Joining.{join_step}
 use Rattle.mdcc_frag.specs.declared.joined.Joined.TheVariants.{Repeated}
 use Rattle.mdcc_frag.proofs.Entries.{on_err, begin_taken, advance_taken, repeated, disagreed}
 use Rattle.mdcc_frag.proofs.joiner.take_piece.Goals as goal
@@ -16,5 +16,5 @@ returns-in-Disagree-clause-taken c =
 
 pub returns-in-Repeat-clause-taken : goal.returns-in-Repeat-clause-taken
 returns-in-Repeat-clause-taken c =
-    ap (λ table. step Repeated table.entries) c.promote.ensures.entries
+    ap (λ table. join_step Repeated table.entries) c.promote.ensures.entries
     ∙ repeated c.args.piece.now c.args.bytes.now c.args.table.now.entries (sym c.in-Repeat.ensures)

@@ -1,7 +1,7 @@
 use Rattle.std.proofs.Common.{arith}
-use Rattle.mdcc_messages.specs.declared.facts.Fact.{Fact}
-use Rattle.mdcc_messages.specs.declared.facts.Fact.TheVariants as facts
-use Rattle.mdcc_messages.specs.WellFormed.{IsWellFormedFact}
+use Rattle.mdcc_def_messages.specs.declared.facts.Fact.{Fact}
+use Rattle.mdcc_def_messages.specs.declared.facts.Fact.TheVariants as facts
+use Rattle.mdcc_def_messages.specs.WellFormed.{IsWellFormedFact}
 use Rattle.mdcc_journal.specs.Counts.{HasCounts}
 use Rattle.mdcc_journal.proofs.counts.well_formed_facts_have_counts.Goals as goal
 

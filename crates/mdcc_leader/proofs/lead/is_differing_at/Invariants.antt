@@ -1,7 +1,7 @@
 use Rattle.std.proofs.Common.{◌≡◌, ◌&&◌, drop}
 use Rattle.std.specs.List.{list_any}
 use Rattle.mdcc_base.specs.Ballot.{ballot_eq}
-use Rattle.mdcc_protocol.specs.Leader.{is_differing}
+use Rattle.mdcc_def_protocol.specs.Leader.{is_differing}
 use Rattle.mdcc_leader.proofs.lead.is_differing_at.Given as goal
 
 abbrev pub invariant-loop-report : goal.invariant-loop-report

@@ -1,6 +1,6 @@
 use Rattle.std.proofs.Common.{◌≡◌, ◌∙◌, Some, sym, ap}
 use Rattle.std.specs.Option.{option_copied}
-use Rattle.mdcc_protocol.specs.Recover.{choice_accepted}
+use Rattle.mdcc_def_protocol.specs.Recover.{choice_accepted}
 use Rattle.mdcc_learner.proofs.Lists.{first-here}
 use Rattle.mdcc_learner.proofs.accepted.first_accepted.Goals as goal
 

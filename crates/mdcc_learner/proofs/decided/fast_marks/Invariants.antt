@@ -1,7 +1,7 @@
 use Rattle.std.proofs.Common.{◌≡◌, ◌≤◌, ◌+◌, drop, length, not}
 use Rattle.mdcc_base.specs.Counts.{number_of}
 use Rattle.mdcc_learner.specs.Decided.{fast_votes}
-use Rattle.mdcc_protocol.specs.Marks.{is_accept}
+use Rattle.mdcc_def_protocol.specs.Marks.{is_accept}
 use Rattle.mdcc_learner.proofs.decided.fast_marks.Given as goal
 
 abbrev pub invariant-loop-vote : goal.invariant-loop-vote

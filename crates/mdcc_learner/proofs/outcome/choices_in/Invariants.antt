@@ -1,5 +1,5 @@
 use Rattle.std.proofs.Common.{◌≡◌, ◌≤◌, ◌++◌, drop, filter_map, length, option_and_then}
-use Rattle.mdcc_protocol.specs.Marks.{choice_in}
+use Rattle.mdcc_def_protocol.specs.Marks.{choice_in}
 use Rattle.mdcc_learner.proofs.outcome.choices_in.Given as goal
 
 abbrev pub invariant-loop-mark : goal.invariant-loop-mark

@@ -5,7 +5,7 @@ use Rattle.indexmap.specs.IndexMap.{get}
 use Rattle.mdcc_base.specs.Key.{key_eq}
 use Rattle.mdcc_base.specs.TxId.{tx_eq}
 use Rattle.mdcc_base.specs.declared.key.Key.{Key}
-use Rattle.mdcc_protocol.specs.declared.votes.Vote.{Vote}
+use Rattle.mdcc_def_protocol.specs.declared.votes.Vote.{Vote}
 use Rattle.mdcc_struct.proofs.Order.{tx_eq-same}
 use Rattle.mdcc_learner.specs.Places.{VotesByKey, votes_with}
 use Rattle.mdcc_learner.proofs.Kept.{cond-and, put-new, put-same}

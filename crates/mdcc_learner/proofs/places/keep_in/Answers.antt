@@ -3,7 +3,7 @@ use Rattle.std.proofs.lemmas.Result.{err_from_is_err_and}
 use Rattle.std.specs.Prelude.{unwrap_or, is_some, true}
 use Rattle.indexmap.specs.IndexMap.{get}
 use Rattle.mdcc_base.specs.Key.{key_eq}
-use Rattle.mdcc_protocol.specs.declared.votes.Vote.{Vote}
+use Rattle.mdcc_def_protocol.specs.declared.votes.Vote.{Vote}
 use Rattle.mdcc_learner.proofs.Kept.{key_eq-same, put-new, put-same}
 use Rattle.mdcc_learner.proofs.places.keep_in.Goals as goal
 

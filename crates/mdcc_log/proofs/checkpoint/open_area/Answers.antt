@@ -1,5 +1,5 @@
 use Rattle.std.proofs.Common.{◌≡◌, inl, inr, ◌∷◌, [], List, ℕ, get_or, ◌∙◌, ap, subst, arith}
-use Rattle.mdcc_disks.specs.Disks.{IsTorn, Holds}
+use Rattle.mdcc_disks.specs.Disks.{IsTorn, IsOverwritten}
 use Rattle.mdcc_disks.specs.Disks.DiskCall.{Write, Sync}
 use Rattle.mdcc_log_file.proofs.Bytes.{one_written}
 use Rattle.mdcc_log_file.proofs.Moments.{one_call, weakened, both}
@@ -29,7 +29,7 @@ returns-clause-opened g c told =
     let bytes = (g.D.Disks.disk c.args.disks.now c.args.place).bytes in
     let mid = (g.D.Disks.disk c.sync.new.self c.args.place).bytes in
     let new = (g.D.Disks.disk c.write_through.new.disks c.args.place).bytes in
-    on_ok (Holds mid 8 (1 ∷ []) new) (new ≡ with_gate 1 bytes) c.write_through.result (λ holds. one_written mid new 8 1 holds ∙ ap (λ (l : List ℕ). with_gate 1 l) c.sync.ensures.bytes) (c.write_through.ensures.written (c.sync.ensures.call.others.told ∙ told))
+    on_ok (IsOverwritten mid 8 (1 ∷ []) new) (new ≡ with_gate 1 bytes) c.write_through.result (λ holds. one_written mid new 8 1 holds ∙ ap (λ (l : List ℕ). with_gate 1 l) c.sync.ensures.bytes) (c.write_through.ensures.written (c.sync.ensures.call.others.told ∙ told))
 
 pub returns-in_err-sync-clause-calls : goal.returns-in_err-sync-clause-calls
 returns-in_err-sync-clause-calls g c = made_first (Sync ∷ []) (Write 8 (1 ∷ []) ∷ Sync ∷ []) _ _ (made_one _ _ _ _ c.sync.ensures.call.calls)

@@ -1,5 +1,5 @@
 use Rattle.std.proofs.Common.{◌-◌, ◌∷◌, [], List, ◌∙◌, ap, subst, Option}
-use Rattle.mdcc_disks.specs.Disks.{Holds, DiskCall}
+use Rattle.mdcc_disks.specs.Disks.{IsOverwritten, DiskCall}
 use Rattle.mdcc_disks.specs.Disks.DiskCall.{Write, Sync}
 use Rattle.mdcc_log_file.specs.Calls.{with_calls}
 use Rattle.mdcc_log_file.specs.Append.{MayStandBehind}
@@ -15,7 +15,7 @@ returns-in_err-write_through-clause-any_moment g c front inner ends told rest =
 pub returns-in_err-write_through-2-clause-any_moment : goal.returns-in_err-write_through-2-clause-any_moment
 returns-in_err-write_through-2-clause-any_moment g c front inner ends told rest =
     let mid = (g.D.Disks.disk c.write_through.new.disks c.args.place).bytes in
-    let holds = subst (λ b. Holds (g.D.Disks.disk c.args.disks.now c.args.place).bytes c.args.size b mid) ends (c.in_ok-write_through.ensures.written told) in
+    let holds = subst (λ b. IsOverwritten (g.D.Disks.disk c.args.disks.now c.args.place).bytes c.args.size b mid) ends (c.in_ok-write_through.ensures.written told) in
     let is = stage_makes front inner c.args.size _ _ mid rest holds in
     both
     (weakened (MayStandBehind front inner) (c.write_through.ensures.any_moment told) (λ x torn. stage_leaves front inner c.args.size c.args.bytes.now _ _ x rest torn))
@@ -24,7 +24,7 @@ returns-in_err-write_through-2-clause-any_moment g c front inner ends told rest 
 pub returns-clause-any_moment : goal.returns-clause-any_moment
 returns-clause-any_moment g c front inner ends told rest =
     let mid = (g.D.Disks.disk c.write_through.new.disks c.args.place).bytes in
-    let holds = subst (λ b. Holds (g.D.Disks.disk c.args.disks.now c.args.place).bytes c.args.size b mid) ends (c.in_ok-write_through.ensures.written told) in
+    let holds = subst (λ b. IsOverwritten (g.D.Disks.disk c.args.disks.now c.args.place).bytes c.args.size b mid) ends (c.in_ok-write_through.ensures.written told) in
     let is = stage_makes front inner c.args.size _ _ mid rest holds in
     both
     (weakened (MayStandBehind front inner) (c.write_through.ensures.any_moment told) (λ x torn. stage_leaves front inner c.args.size c.args.bytes.now _ _ x rest torn))
@@ -33,7 +33,7 @@ returns-clause-any_moment g c front inner ends told rest =
 pub returns-clause-acknowledged : goal.returns-clause-acknowledged
 returns-clause-acknowledged g c front inner ends told rest =
     let mid = (g.D.Disks.disk c.write_through.new.disks c.args.place).bytes in
-    let holds = subst (λ b. Holds (g.D.Disks.disk c.args.disks.now c.args.place).bytes c.args.size b mid) ends (c.in_ok-write_through.ensures.written told) in
+    let holds = subst (λ b. IsOverwritten (g.D.Disks.disk c.args.disks.now c.args.place).bytes c.args.size b mid) ends (c.in_ok-write_through.ensures.written told) in
     let is = stage_makes front inner c.args.size _ _ mid rest holds in
     let told_mid = c.write_through.ensures.others.told ∙ told in
     gate_makes front inner c.args.bytes.now c.args.size _ mid _ _ _ ends rest is (c.in_ok-write_through-2.ensures.written told_mid) (c.in_ok-write_through-2.ensures.durable told_mid)

@@ -1,8 +1,8 @@
 use Rattle.std.proofs.Common.{◌≡◌, List, length, map, take}
 use Rattle.mdcc_base.specs.Sizes.{Sizes}
 use Rattle.mdcc_learner.specs.Represents.{RepresentsVotes}
-use Rattle.mdcc_protocol.specs.Learner.{learned}
-use Rattle.mdcc_protocol.specs.declared.votes.Vote.{Vote}
+use Rattle.mdcc_def_protocol.specs.Learner.{learned}
+use Rattle.mdcc_def_protocol.specs.declared.votes.Vote.{Vote}
 use Rattle.mdcc_manager.proofs.marks.marks_learned.Given as goal
 
 abbrev pub invariant-loop-open : goal.invariant-loop-open

@@ -1,7 +1,7 @@
 use Rattle.std.proofs.Common.{◌≡◌, List, length, map, take}
 use Rattle.mdcc_learner.specs.Represents.{RepresentsVotes}
-use Rattle.mdcc_protocol.specs.Learner.{learned_with}
-use Rattle.mdcc_protocol.specs.declared.votes.Vote.{Vote}
+use Rattle.mdcc_def_protocol.specs.Learner.{learned_with}
+use Rattle.mdcc_def_protocol.specs.declared.votes.Vote.{Vote}
 use Rattle.mdcc_manager.proofs.marks.marks_with.Given as goal
 
 abbrev pub invariant-loop-open : goal.invariant-loop-open

@@ -3,7 +3,7 @@ use Rattle.std.specs.Prelude.{flat_map}
 use Rattle.mdcc_base.specs.Sizes.{Sizes}
 use Rattle.mdcc_learner.specs.Represents.{RepresentsVotes}
 use Rattle.mdcc_manager.specs.Ticks.{acts_in}
-use Rattle.mdcc_protocol.specs.declared.votes.Vote.{Vote}
+use Rattle.mdcc_def_protocol.specs.declared.votes.Vote.{Vote}
 use Rattle.mdcc_manager.proofs.ticks.acts_of.Given as goal
 
 abbrev pub invariant-loop-open : goal.invariant-loop-open

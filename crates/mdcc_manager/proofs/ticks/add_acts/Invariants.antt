@@ -2,8 +2,8 @@ use Rattle.std.proofs.Common.{◌≡◌, ◌++◌, List, drop, map}
 use Rattle.mdcc_base.specs.Sizes.{Sizes}
 use Rattle.mdcc_learner.specs.Represents.{RepresentsVotes}
 use Rattle.mdcc_manager.specs.Ticks.{unlearned_in}
-use Rattle.mdcc_protocol.specs.Manager.{act_at}
-use Rattle.mdcc_protocol.specs.declared.votes.Vote.{Vote}
+use Rattle.mdcc_def_protocol.specs.Manager.{act_at}
+use Rattle.mdcc_def_protocol.specs.declared.votes.Vote.{Vote}
 use Rattle.mdcc_manager.proofs.ticks.add_acts.Given as goal
 
 abbrev pub invariant-loop-entry : goal.invariant-loop-entry

@@ -1,6 +1,6 @@
 use Rattle.std.proofs.Common.{◌++◌}
 use Rattle.mdcc_node.proofs.Ending.{next-votes}
-use Rattle.mdcc_rules.specs.AcceptorRules.{all_votes_sent}
+use Rattle.mdcc_def_rules.specs.AcceptorRules.{all_votes_sent}
 use Rattle.mdcc_node.proofs.votes.send_votes.Goals as goal
 
 pub loop-place-preserved : goal.loop-place-preserved

@@ -1,6 +1,6 @@
 use Rattle.std.proofs.Common.{◌≡◌, ◌++◌, List, drop}
-use Rattle.mdcc_messages.specs.declared.facts.Fact.{Fact}
-use Rattle.mdcc_rules.specs.AcceptorRules.{all_votes_sent}
+use Rattle.mdcc_def_messages.specs.declared.facts.Fact.{Fact}
+use Rattle.mdcc_def_rules.specs.AcceptorRules.{all_votes_sent}
 use Rattle.mdcc_node.proofs.votes.send_votes.Given as goal
 
 abbrev pub invariant-loop-place : goal.invariant-loop-place

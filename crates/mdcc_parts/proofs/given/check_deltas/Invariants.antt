@@ -1,6 +1,6 @@
 use Rattle.std.proofs.Common.{None}
-use Rattle.mdcc_messages.specs.ReadingSteps.{elements_at}
-use Rattle.mdcc_messages.specs.ReadingParts.{delta_behind}
+use Rattle.mdcc_def_messages.specs.ReadingSteps.{elements_at}
+use Rattle.mdcc_def_messages.specs.ReadingParts.{delta_behind}
 use Rattle.mdcc_parts.specs.Reads.{end_of}
 use Rattle.mdcc_parts.proofs.Elements.{HasPassed}
 use Rattle.mdcc_parts.proofs.given.check_deltas.Given as goal

@@ -1,6 +1,6 @@
 use Rattle.std.proofs.Common.{None}
-use Rattle.mdcc_messages.specs.ReadingSteps.{elements_at}
-use Rattle.mdcc_messages.specs.ReadingParts.{amount_behind}
+use Rattle.mdcc_def_messages.specs.ReadingSteps.{elements_at}
+use Rattle.mdcc_def_messages.specs.ReadingParts.{amount_behind}
 use Rattle.mdcc_parts.proofs.Elements.{HasRead}
 use Rattle.mdcc_parts.proofs.items.amounts_from.Given as goal
 

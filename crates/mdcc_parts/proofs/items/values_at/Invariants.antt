@@ -1,5 +1,5 @@
 use Rattle.std.proofs.Common.{None}
-use Rattle.mdcc_messages.specs.ReadingSteps.{i64_at, elements_at}
+use Rattle.mdcc_def_messages.specs.ReadingSteps.{i64_at, elements_at}
 use Rattle.mdcc_parts.proofs.Elements.{HasRead}
 use Rattle.mdcc_parts.proofs.items.values_at.Given as goal
 

@@ -1,6 +1,6 @@
 use Rattle.std.proofs.Common.{None}
-use Rattle.mdcc_messages.specs.ReadingSteps.{elements_at}
-use Rattle.mdcc_messages.specs.ReadingParts.{choice_behind}
+use Rattle.mdcc_def_messages.specs.ReadingSteps.{elements_at}
+use Rattle.mdcc_def_messages.specs.ReadingParts.{choice_behind}
 use Rattle.mdcc_parts.proofs.Elements.{HasRead}
 use Rattle.mdcc_parts.proofs.marks.choices_from.Given as goal
 

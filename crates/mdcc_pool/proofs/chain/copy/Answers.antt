@@ -1,6 +1,6 @@
 use Rattle.std.proofs.Common.{◌≡◌, ℕ, ◌+◌, ◌-◌, ◌/◌, ◌%◌, ◌++◌, take, drop, sym, ap, ◌∙◌, arith, length-append, length-drop}
 use Rattle.std.proofs.lemmas.List.{length-take}
-use Rattle.mdcc_pool.specs.Chains.{bytes_of, next_of, step}
+use Rattle.mdcc_pool.specs.Chains.{cell_bytes, next_cell, step}
 use Rattle.mdcc_pool.proofs.Copying.{copy-onward, copy-same, copy-step}
 use Rattle.mdcc_pool.proofs.chain.copy.Goals as goal
 use Rattle.mdcc_pool.proofs.chain.copy.Goals.{then-within-size-eq-WIDTH, else-within-size-eq-WIDTH}
@@ -16,7 +16,7 @@ loop-done-preserved c =
     let at : c.if-within-size-eq-WIDTH.at ≡ step c.args.cells.now ((c.args.offset + (c.loop-done.done + size)) / 60) c.args.first =
     elim c.if-within-size-eq-WIDTH.branch [
       | then-within-size-eq-WIDTH w ↦
-          w.at-is ∙ ap (λ x. x.next) c.cell-cell.ensures ∙ ap (next_of c.args.cells.now) was.1
+          w.at-is ∙ ap (λ x. x.next) c.cell-cell.ensures ∙ ap (next_cell c.args.cells.now) was.1
           ∙ sym (copy-onward c.args.cells.now place size c.args.first w.if-within-size-eq-WIDTH.true)
           ∙ ap (λ k. step c.args.cells.now (k / 60) c.args.first) (sym sum)
       | else-within-size-eq-WIDTH w ↦
@@ -25,9 +25,9 @@ loop-done-preserved c =
           ∙ ap (λ k. step c.args.cells.now (k / 60) c.args.first) (sym sum)
     ] in
     let same : c.loop-done.done + size - c.loop-done.done ≡ size = omega arith in
-    let piece : c.copy_from_slice.new.self ≡ take size (drop (place % 60) (bytes_of c.args.cells.now c.loop-done.at)) =
+    let piece : c.copy_from_slice.new.self ≡ take size (drop (place % 60) (cell_bytes c.args.cells.now c.loop-done.at)) =
     c.copy_from_slice.ensures.after ∙ ap (λ x. take (place % 60 + size - place % 60) (drop (place % 60) x.bytes)) c.cell-cell.ensures
-    ∙ ap (λ k. take k (drop (place % 60) (bytes_of c.args.cells.now c.loop-done.at))) (omega arith) in (
+    ∙ ap (λ k. take k (drop (place % 60) (cell_bytes c.args.cells.now c.loop-done.at))) (omega arith) in (
       omega arith,
       at,
       omega (

@@ -1,6 +1,6 @@
 use Rattle.std.proofs.Common.{arith, fold, subst}
 use Rattle.std.proofs.lemmas.List.{take_all}
-use Rattle.mdcc_protocol.specs.Recover.{counted_tick}
+use Rattle.mdcc_def_protocol.specs.Recover.{counted_tick}
 use Rattle.mdcc_recover.proofs.Counted.{all-rest, counted-more, counted-next}
 use Rattle.mdcc_recover.proofs.counters.count_tick.Goals as goal
 use Rattle.mdcc_recover.specs.Counters.{AreCounters, is_kept}

@@ -1,6 +1,6 @@
 use Rattle.std.proofs.Common.{◌≡◌, ℕ, true, drop, fold, take}
 use Rattle.std.specs.List.{list_all}
-use Rattle.mdcc_protocol.specs.Recover.{counted_tick}
+use Rattle.mdcc_def_protocol.specs.Recover.{counted_tick}
 use Rattle.mdcc_recover.specs.Counters.{AreCounters, is_kept}
 use Rattle.mdcc_recover.proofs.counters.count_tick.Given as goal
 use Rattle.mdcc_struct.specs.Maps.{TxMap}

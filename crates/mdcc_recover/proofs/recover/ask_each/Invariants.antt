@@ -1,5 +1,5 @@
 use Rattle.std.proofs.Common.{◌≡◌, ◌++◌, drop, map}
-use Rattle.mdcc_protocol.specs.Recover.{ask_of}
+use Rattle.mdcc_def_protocol.specs.Recover.{ask_of}
 use Rattle.mdcc_recover.proofs.recover.ask_each.Given as goal
 
 abbrev pub invariant-loop-entry : goal.invariant-loop-entry

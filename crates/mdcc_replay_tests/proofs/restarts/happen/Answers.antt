@@ -1,4 +1,4 @@
-use Rattle.mdcc_simulation.specs.Events.{after_event}
+use Rattle.mdcc_def_simulation.specs.Events.{after_event}
 use Rattle.mdcc_replay_tests.proofs.Standing.{stands-behind}
 use Rattle.mdcc_replay_tests.proofs.restarts.happen.Goals as goal
 

@@ -1,5 +1,5 @@
 use Rattle.std.proofs.Common.{ap, refl, sym, ◌∙◌, ◌+◌, ◌<◌, ◌≡◌, ◌++◌, ◌∷◌, length, arith, []}
-use Rattle.mdcc_language.specs.Header.{bound_line}
+use Rattle.mdcc_def_language.specs.Header.{bound_line}
 use Rattle.std.proofs.lemmas.Result.{err_from_is_err_and}
 use Rattle.mdcc_sched.proofs.MoreBounds.{first_bound, bound_read, bound_refused, bounds_full, bounds_ended, all_more, length_more}
 use Rattle.mdcc_sched.proofs.header.bounds_lines.Goals.{then-loop-rest-test+else-is_next, else-loop-rest-test}

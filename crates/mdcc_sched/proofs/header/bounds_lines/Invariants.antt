@@ -1,7 +1,7 @@
 use Rattle.std.proofs.Common.{◌≡◌, ◌+◌, ◌-◌, ◌≤◌, length, true}
 use Rattle.std.specs.List.{list_all}
 use Rattle.mdcc_option.specs.Bounds.{is_bound}
-use Rattle.mdcc_language.specs.Header.{more_bounds, bounds_lines}
+use Rattle.mdcc_def_language.specs.Header.{more_bounds, bounds_lines}
 use Rattle.mdcc_sched.proofs.MoreBounds.{onto_bounds}
 use Rattle.mdcc_sched.proofs.header.bounds_lines.Given as goal
 

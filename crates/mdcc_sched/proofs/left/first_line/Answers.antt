@@ -1,5 +1,5 @@
 use Rattle.std.proofs.Common.{ap, sym, ◌∙◌, ◌+◌, length, take, drop, take_all, length-take-le, arith}
-use Rattle.mdcc_language.specs.Lines.{lines_in, bytes_of_line}
+use Rattle.mdcc_def_language.specs.Lines.{lines_in, bytes_of_line}
 use Rattle.mdcc_sched.proofs.FirstLines.{front_line, other_lines, ended, unended}
 use Rattle.mdcc_sched.proofs.left.first_line.Goals as goal
 

@@ -1,6 +1,6 @@
 use Rattle.std.proofs.Common.{List, ℕ, ◌+◌, arith, ap, ◌∙◌, sym}
 use Rattle.std.proofs.lemmas.Result.{err_from_is_err_and}
-use Rattle.mdcc_language.specs.Schedule.{centres_from}
+use Rattle.mdcc_def_language.specs.Schedule.{centres_from}
 use Rattle.mdcc_sched.specs.Centres.{centre_above}
 use Rattle.mdcc_sched.proofs.Steps.{on_false, word_read, word_refused, centre_law}
 use Rattle.mdcc_sched.proofs.lists.centres_from.Goals as goal

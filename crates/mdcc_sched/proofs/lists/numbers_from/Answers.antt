@@ -1,6 +1,6 @@
 use Rattle.std.proofs.Common.{List, ℕ, ◌+◌, arith, ap, ◌∙◌, sym}
 use Rattle.std.proofs.lemmas.Result.{err_from_is_err_and}
-use Rattle.mdcc_language.specs.Schedule.{numbers_from}
+use Rattle.mdcc_def_language.specs.Schedule.{numbers_from}
 use Rattle.mdcc_sched.specs.Numbers.{number_of_word}
 use Rattle.mdcc_sched.proofs.Steps.{on_false, word_read, word_refused, number_law}
 use Rattle.mdcc_sched.proofs.lists.numbers_from.Goals as goal

@@ -1,8 +1,8 @@
 use Rattle.std.proofs.Common.{◌≡◌, ◌+◌, ◌-◌, ◌≤◌, length}
-use Rattle.mdcc_language.specs.Schedule.{numbers_from}
-use Rattle.mdcc_language.specs.Words.{parts_from}
-use Rattle.mdcc_words.proofs.Onto.{onto}
-use Rattle.mdcc_words.proofs.Parts.{parts_left}
+use Rattle.mdcc_def_language.specs.Schedule.{numbers_from}
+use Rattle.mdcc_def_language.specs.Words.{parts_from}
+use Rattle.mdcc_sched_words.proofs.Onto.{onto}
+use Rattle.mdcc_sched_words.proofs.Parts.{parts_left}
 use Rattle.mdcc_sched.proofs.lists.numbers_from.Given as goal
 
 abbrev pub invariant-loop-place : goal.invariant-loop-place

@@ -1,7 +1,7 @@
 use Rattle.std.proofs.Common.{List, ℕ, ◌+◌, arith, ap, ◌∙◌, sym}
 use Rattle.std.proofs.lemmas.Result.{err_from_is_err_and}
-use Rattle.mdcc_language.specs.Schedule.{updates_from}
-use Rattle.mdcc_language.specs.Updates.{update_of}
+use Rattle.mdcc_def_language.specs.Schedule.{updates_from}
+use Rattle.mdcc_def_language.specs.Updates.{update_of}
 use Rattle.mdcc_sched.proofs.Steps.{on_false, word_read, word_refused, update_law}
 use Rattle.mdcc_sched.proofs.lists.updates_from.Goals as goal
 

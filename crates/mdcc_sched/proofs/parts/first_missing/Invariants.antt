@@ -1,5 +1,5 @@
 use Rattle.std.proofs.Common.{◌≡◌, drop}
-use Rattle.mdcc_language.specs.Resolve.{first_missing}
+use Rattle.mdcc_def_language.specs.Resolve.{first_missing}
 use Rattle.mdcc_sched.proofs.parts.first_missing.Given as goal
 
 abbrev pub invariant-loop-word : goal.invariant-loop-word

@@ -1,6 +1,6 @@
 use Rattle.std.proofs.Common.{◌≡◌, ◌++◌, drop, flat_map}
 use Rattle.std.specs.String.{string_bytes}
-use Rattle.mdcc_language.specs.Report.{byte_text}
+use Rattle.mdcc_def_language.specs.Report.{byte_text}
 use Rattle.mdcc_sched.proofs.print.write_body_bytes.Given as goal
 
 abbrev pub invariant-loop-byte : goal.invariant-loop-byte

@@ -1,6 +1,6 @@
 use Rattle.std.proofs.Common.{append_assoc, codes}
 use Rattle.std.specs.String.{string_bytes}
-use Rattle.mdcc_language.specs.Report.{begin_fault_text}
+use Rattle.mdcc_def_language.specs.Report.{begin_fault_text}
 use Rattle.mdcc_sched.proofs.print.write_refused.Goals as goal
 
 pub returns : goal.returns

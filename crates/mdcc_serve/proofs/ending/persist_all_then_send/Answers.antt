@@ -1,9 +1,9 @@
 use Rattle.std.proofs.Common.{◌≡◌, ◌<◌, ◌≤◌, Err, arith, length, rules, subst, sym}
-use Rattle.mdcc_runs.specs.Servers.{Server}
+use Rattle.mdcc_def_server_runs.specs.Servers.{Server}
 use Rattle.mdcc_serve.proofs.Doings.{end_of, ends_are, ends_own}
 use Rattle.mdcc_serve.proofs.Rounds.{HaveGone, all_gone, next_gone, next_served, next_stopped, none_gone}
 use Rattle.mdcc_serve.specs.Centres.{AllFinish, AllStop, places}
-use Rattle.mdcc_site.specs.Moments.{outside}
+use Rattle.mdcc_serve_site.specs.Moments.{outside}
 use Rattle.mdcc_serve.proofs.ending.persist_all_then_send.Goals as goal
 
 pub loop-index-init : goal.loop-index-init

@@ -1,9 +1,9 @@
 use Rattle.std.proofs.Common.{List}
-use Rattle.mdcc_runs.specs.Sites.{Site}
+use Rattle.mdcc_def_server_runs.specs.Sites.{Site}
 use Rattle.mdcc_serve.proofs.Doings.{end_of}
 use Rattle.mdcc_serve.proofs.Rounds.{HaveGone}
 use Rattle.mdcc_serve.specs.Centres.{Ascend, HoldSites, places}
-use Rattle.mdcc_site.specs.Moments.{outside}
+use Rattle.mdcc_serve_site.specs.Moments.{outside}
 use Rattle.mdcc_serve.proofs.ending.persist_all_then_send.Given as goal
 
 abbrev pub invariant-loop-index : goal.invariant-loop-index

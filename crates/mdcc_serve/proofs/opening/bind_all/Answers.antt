@@ -1,8 +1,8 @@
 use Rattle.std.proofs.Common.{◌≡◌, ℕ, suc, ◌+◌, ◌≤◌, List, Err, arith, rules, subst, sym, take}
-use Rattle.mdcc_runs.specs.Acts.{Act}
+use Rattle.mdcc_def_server_runs.specs.Acts.{Act}
 use Rattle.mdcc_serve.proofs.Bound.{acts_all, acts_more, acts_split, binds_none, binds_stop, binds_then, each_at}
 use Rattle.mdcc_serve.specs.Openings.{BindsAll, BindsSome, binds_of, binds_of_all}
-use Rattle.mdcc_site.specs.declared.site.Site.{Site}
+use Rattle.mdcc_serve_site.specs.declared.site.Site.{Site}
 use Rattle.mdcc_serve.proofs.opening.bind_all.Goals as goal
 
 pub loop-site-init : goal.loop-site-init

@@ -2,9 +2,9 @@ use Rattle.std.proofs.Common.{◌≡◌, ◌+◌, ◌≤◌, List, Err, arith, l
 use Rattle.std.specs.List.{AllByRecursion}
 use Rattle.mdcc_serve.proofs.Ready.{bind_fails, held_among, opens_all, start_fails, tell_fails}
 use Rattle.mdcc_serve.specs.Openings.{BindsAll, BindsSome, LinesSome, binds_of_all, boots_told}
-use Rattle.mdcc_site.specs.Moments.{outside}
-use Rattle.mdcc_site.specs.SiteState.{PrintsAll}
-use Rattle.mdcc_site.specs.declared.site.Site.{Site}
+use Rattle.mdcc_serve_site.specs.Moments.{outside}
+use Rattle.mdcc_serve_site.specs.SiteState.{PrintsAll}
+use Rattle.mdcc_serve_site.specs.declared.site.Site.{Site}
 use Rattle.mdcc_serve.proofs.Refused.{binding_ends, telling_ends}
 use Rattle.mdcc_serve.proofs.Full.{lacks_none}
 use Rattle.mdcc_serve.proofs.Untaken.{bind_refuses, line_refuses, start_refuses}

@@ -1,10 +1,10 @@
 use Rattle.std.proofs.Common.{◌≡◌, ℕ, suc, ◌+◌, ◌∷◌, [], List, Err, arith, rules, subst, sym, take}
-use Rattle.mdcc_runs.specs.Acts.{Act}
-use Rattle.mdcc_runs.specs.declared.lines.ServerLine.{ServerLine}
+use Rattle.mdcc_def_server_runs.specs.Acts.{Act}
+use Rattle.mdcc_def_server_runs.specs.declared.lines.ServerLine.{ServerLine}
 use Rattle.mdcc_serve.proofs.Bound.{acts_all, acts_more, acts_split, lines_none, lines_stop, lines_then}
 use Rattle.mdcc_serve.specs.Openings.{LinesSome, boots_told}
-use Rattle.mdcc_site.specs.SiteState.{PrintsAll}
-use Rattle.mdcc_site.specs.declared.site.Site.{Site}
+use Rattle.mdcc_serve_site.specs.SiteState.{PrintsAll}
+use Rattle.mdcc_serve_site.specs.declared.site.Site.{Site}
 use Rattle.mdcc_serve.proofs.opening.tell_boots.Goals as goal
 
 -- the line of a centre

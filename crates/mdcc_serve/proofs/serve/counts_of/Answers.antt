@@ -2,7 +2,7 @@ use Rattle.std.proofs.Common.{◌≡◌, ◌∙◌, ℕ, suc, ◌+◌, List, ap,
 use Rattle.mdcc_serve.proofs.Totals.{counts_more, take_all}
 use Rattle.mdcc_serve.specs.Totals.{counts_of, with_counts}
 use Rattle.mdcc_serve.specs.declared.served.Served.{Served}
-use Rattle.mdcc_site.specs.declared.site.Site.{Site as TheSite}
+use Rattle.mdcc_serve_site.specs.declared.site.Site.{Site as TheSite}
 use Rattle.mdcc_serve.proofs.serve.counts_of.Goals as goal
 
 pub loop-site-preserved : goal.loop-site-preserved

@@ -1,7 +1,7 @@
 use Rattle.std.proofs.Common.{◌≡◌, ℕ, suc, ◌+◌, ◌<◌, ◌^◌, List, arith, subst, take}
 use Rattle.mdcc_serve.proofs.Totals.{each_more, take_all}
 use Rattle.mdcc_serve.specs.Ends.{SerialsFit}
-use Rattle.mdcc_site.specs.declared.site.Site.{Site as TheSite}
+use Rattle.mdcc_serve_site.specs.declared.site.Site.{Site as TheSite}
 use Rattle.mdcc_serve.proofs.serve.serials_fit.Goals as goal
 
 pub loop-site-preserved : goal.loop-site-preserved

@@ -1,9 +1,9 @@
 use Rattle.std.proofs.Common.{◌≡◌, [], List, Err, map, rules, subst, sym, refl, ◌+◌}
-use Rattle.mdcc_runs.specs.Servers.{site_of}
+use Rattle.mdcc_def_server_runs.specs.Servers.{site_of}
 use Rattle.mdcc_serve.proofs.Ended.{EndsFrom, serve_caused, serve_others, serves, start_breaks}
 use Rattle.mdcc_serve.specs.Centres.{AllServed, places}
-use Rattle.mdcc_site.specs.Moments.{outside}
-use Rattle.mdcc_site.specs.declared.site.Site.{Site as TheSite}
+use Rattle.mdcc_serve_site.specs.Moments.{outside}
+use Rattle.mdcc_serve_site.specs.declared.site.Site.{Site as TheSite}
 use Rattle.mdcc_serve.proofs.Refused.{turns_end}
 use Rattle.mdcc_serve.proofs.Full.{lacks_none}
 use Rattle.mdcc_serve.proofs.Untaken.{none_refuses}

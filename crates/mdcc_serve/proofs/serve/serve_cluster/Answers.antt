@@ -2,8 +2,8 @@ use Rattle.std.proofs.Common.{◌≡◌, [], arith, length, ℕ, ◌+◌, subst}
 use Rattle.std.proofs.lemmas.Result.{IfErr-at_err}
 use Rattle.mdcc_serve.proofs.Ended.{follow_range, many_range}
 use Rattle.mdcc_serve.specs.Centres.{all_seen, places}
-use Rattle.mdcc_site.specs.Moments.{Caused, outside}
-use Rattle.mdcc_site.specs.declared.fault.ServeFault.{ServeFault}
+use Rattle.mdcc_serve_site.specs.Moments.{Caused, outside}
+use Rattle.mdcc_serve_site.specs.declared.fault.ServeFault.{ServeFault}
 use Rattle.mdcc_serve.proofs.Refused.{logs_may}
 use Rattle.mdcc_serve.specs.Others.{KeepsUnserved}
 use Rattle.mdcc_serve.specs.Refusals.{AreTold, LacksNode, SaysOfLogs}

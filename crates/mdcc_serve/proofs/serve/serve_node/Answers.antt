@@ -1,8 +1,8 @@
 use Rattle.std.proofs.Common.{◌≡◌, ◌∙◌, ◌+◌, ◌∷◌, [], ℕ, arith, subst, sym}
 use Rattle.std.proofs.lemmas.Result.{IfErr-at_err}
 use Rattle.mdcc_serve.specs.Centres.{all_seen, places}
-use Rattle.mdcc_site.specs.Moments.{Caused, outside}
-use Rattle.mdcc_site.specs.declared.fault.ServeFault.{ServeFault}
+use Rattle.mdcc_serve_site.specs.Moments.{Caused, outside}
+use Rattle.mdcc_serve_site.specs.declared.fault.ServeFault.{ServeFault}
 use Rattle.mdcc_serve.proofs.Others.{keeps_but}
 use Rattle.mdcc_serve.proofs.Refused.{logs_may}
 use Rattle.mdcc_serve.proofs.Untaken.{one_refuses}

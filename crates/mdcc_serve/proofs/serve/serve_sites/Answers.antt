@@ -1,15 +1,15 @@
 use Rattle.std.proofs.Common.{◌≡◌, ◌∷◌, [], Err, inl, inr, rules, subst}
 use Rattle.std.specs.Prelude.{fold}
-use Rattle.mdcc_runs.specs.Acts.{Act}
-use Rattle.mdcc_runs.specs.Servers.{after_turn}
+use Rattle.mdcc_def_server_runs.specs.Acts.{Act}
+use Rattle.mdcc_def_server_runs.specs.Servers.{after_turn}
 use Rattle.mdcc_serve.proofs.Last.{last_made, last_stops}
 use Rattle.mdcc_serve.proofs.Repeated.{ascend_on, begun, grew_on}
 use Rattle.mdcc_serve.proofs.Rounds.{hold_whole}
 use Rattle.mdcc_serve.specs.Centres.{places}
 use Rattle.mdcc_serve.specs.Totals.{done_of}
 use Rattle.mdcc_serve.specs.declared.served.Served.{Served}
-use Rattle.mdcc_site.specs.Moments.{outside}
-use Rattle.mdcc_site.specs.SiteState.{PrintsAll, PrintsSome}
+use Rattle.mdcc_serve_site.specs.Moments.{outside}
+use Rattle.mdcc_serve_site.specs.SiteState.{PrintsAll, PrintsSome}
 use Rattle.mdcc_serve.proofs.serve.serve_sites.Goals as goal
 
 pub persist_all_then_send-requires-clause-served : goal.persist_all_then_send-requires-clause-served

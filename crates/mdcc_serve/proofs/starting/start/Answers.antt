@@ -1,6 +1,6 @@
 use Rattle.std.proofs.Common.{◌∙◌, List, ap, refl, rules, sym, ℕ}
-use Rattle.mdcc_messages.specs.declared.facts.Fact.{Fact}
-use Rattle.mdcc_runs.specs.Servers.{Log}
+use Rattle.mdcc_def_messages.specs.declared.facts.Fact.{Fact}
+use Rattle.mdcc_def_server_runs.specs.Servers.{Log}
 use Rattle.mdcc_serve.proofs.starting.start.Goals as goal
 
 pub returns-clause-starts : goal.returns-clause-starts

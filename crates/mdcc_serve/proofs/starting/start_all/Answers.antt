@@ -3,9 +3,9 @@ use Rattle.mdcc_serve.proofs.Together.{keep_stops, none_started, one_started, st
 use Rattle.mdcc_serve.proofs.Standing.{one_stays, rest_stay, unless_so}
 use Rattle.mdcc_serve.proofs.Full.{full_boots}
 use Rattle.mdcc_serve.specs.Starts.{FailToStart, HaveStarted}
-use Rattle.mdcc_serve.specs.Stays.{AllStay, OnFullBoot, UnlessDisk}
-use Rattle.mdcc_site.specs.declared.fault.ServeFault.{ServeFault}
-use Rattle.mdcc_site.specs.declared.site.Site.{Site}
+use Rattle.mdcc_serve.specs.Stays.{AllStay, OnFullBoot, UnlessDiskFault}
+use Rattle.mdcc_serve_site.specs.declared.fault.ServeFault.{ServeFault}
+use Rattle.mdcc_serve_site.specs.declared.site.Site.{Site}
 use Rattle.mdcc_serve.proofs.Refused.{boots_still, none_boot, one_boots, says_still}
 use Rattle.mdcc_serve.specs.Refusals.{AllBoot}
 use Rattle.mdcc_serve.proofs.starting.start_all.Goals as goal
@@ -101,7 +101,7 @@ returns-in_err-start_next-clause-stay g c =
     before.stay (λ a low high. before.started.later a (omega (many, low, arith)) high) in
     rw e (elim c.in_err-start_next.ensures.fails [
       | inl fails ↦ unless_so fault fails.stays (rest fails.others)
-      | inr lacks ↦ subst (λ (f : ServeFault). UnlessDisk f (AllStay g.D.Disks.disk g.D.Disks.may_leave g.D.Disks.tears c.args.config.now.cluster c.args.disks.now c.start_next.new.disks c.args.first (c.args.last + 1))) (sym lacks.0) (rest lacks.2.others lacks.2.stays)
+      | inr lacks ↦ subst (λ (f : ServeFault). UnlessDiskFault f (AllStay g.D.Disks.disk g.D.Disks.may_leave g.D.Disks.tears c.args.config.now.cluster c.args.disks.now c.start_next.new.disks c.args.first (c.args.last + 1))) (sym lacks.0) (rest lacks.2.others lacks.2.stays)
     ])
 
 pub returns-in_err-start_next-clause-full : goal.returns-in_err-start_next-clause-full

@@ -1,14 +1,14 @@
 use Rattle.std.proofs.Common.{◌≡◌, ◌+◌, ℕ, Err, List, Result, arith, subst, sym}
 use Rattle.std.proofs.lemmas.Result.{err_from_is_err_and}
-use Rattle.mdcc_centre.specs.Nodes.{cells_of}
-use Rattle.mdcc_centre.specs.declared.fault.StartFault.{StartFault}
+use Rattle.mdcc_node_log.specs.Nodes.{cells_of}
+use Rattle.mdcc_node_log.specs.declared.fault.StartFault.{StartFault}
 use Rattle.mdcc_option.specs.declared.cluster.Cluster.{Cluster}
 use Rattle.mdcc_serve.proofs.Copied.{among_copy, cluster_copy, holds_copy}
 use Rattle.mdcc_serve.proofs.Opened.{but_others, but_passes, start_lacks}
 use Rattle.mdcc_serve.proofs.Runs.{Ends, fails, runs, runs_boot, says}
 use Rattle.mdcc_serve.specs.Refusals.{BootsAt, SaysAt}
 use Rattle.mdcc_serve.specs.Starts.{FailsToStart, IsRunning, start_fault_of}
-use Rattle.mdcc_site.specs.declared.fault.ServeFault.{ServeFault}
+use Rattle.mdcc_serve_site.specs.declared.fault.ServeFault.{ServeFault}
 use Rattle.mdcc_serve.proofs.starting.start_over_log.Goals as goal
 
 err-of : {T : Type 0} {fault other : StartFault} → fault ≡ other → ◌≡◌ {A = Result T StartFault} (Err fault) (Err other)

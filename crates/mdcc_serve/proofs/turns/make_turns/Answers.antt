@@ -1,9 +1,9 @@
 use Rattle.std.proofs.Common.{◌≡◌, ◌<◌, Err, arith, length, rules}
 use Rattle.std.specs.Prelude.{fold}
-use Rattle.mdcc_runs.specs.Servers.{after_turn}
+use Rattle.mdcc_def_server_runs.specs.Servers.{after_turn}
 use Rattle.mdcc_serve.proofs.Repeated.{HaveRun, begun, none_run, one_run, run_stops}
 use Rattle.mdcc_serve.specs.Centres.{places}
-use Rattle.mdcc_site.specs.Moments.{outside}
+use Rattle.mdcc_serve_site.specs.Moments.{outside}
 use Rattle.mdcc_serve.proofs.turns.make_turns.Goals as goal
 
 pub loop-turn-init : goal.loop-turn-init

@@ -1,8 +1,8 @@
 use Rattle.std.proofs.Common.{List}
-use Rattle.mdcc_runs.specs.Sites.{Site}
+use Rattle.mdcc_def_server_runs.specs.Sites.{Site}
 use Rattle.mdcc_serve.proofs.Repeated.{HaveRun}
 use Rattle.mdcc_serve.specs.Centres.{Ascend, HoldSites, places}
-use Rattle.mdcc_site.specs.Moments.{outside}
+use Rattle.mdcc_serve_site.specs.Moments.{outside}
 use Rattle.mdcc_serve.proofs.turns.make_turns.Given as goal
 
 abbrev pub invariant-loop-turn : goal.invariant-loop-turn

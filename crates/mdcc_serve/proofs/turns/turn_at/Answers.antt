@@ -1,8 +1,8 @@
 use Rattle.std.proofs.Common.{refl, subst, sym}
-use Rattle.mdcc_runs.specs.Turns.{turn_of}
-use Rattle.mdcc_site.specs.Moments.{outside}
-use Rattle.mdcc_site.specs.SiteState.{Goes, HoldsSite, IsServed, place}
-use Rattle.mdcc_site.specs.declared.site.Site.{Site as TheSite}
+use Rattle.mdcc_def_server_runs.specs.Turns.{turn_of}
+use Rattle.mdcc_serve_site.specs.Moments.{outside}
+use Rattle.mdcc_serve_site.specs.SiteState.{Goes, HoldsSite, IsServed, place}
+use Rattle.mdcc_serve_site.specs.declared.site.Site.{Site as TheSite}
 use Rattle.mdcc_serve.proofs.turns.turn_at.Goals as goal
 
 pub turn-requires-clause-served : goal.turn-requires-clause-served

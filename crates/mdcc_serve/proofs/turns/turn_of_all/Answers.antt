@@ -1,10 +1,10 @@
 use Rattle.std.proofs.Common.{◌≡◌, ◌<◌, ◌≤◌, Err, arith, length, rules, subst, sym}
-use Rattle.mdcc_runs.specs.Servers.{Server}
-use Rattle.mdcc_runs.specs.Turns.{turn_of}
+use Rattle.mdcc_def_server_runs.specs.Servers.{Server}
+use Rattle.mdcc_def_server_runs.specs.Turns.{turn_of}
 use Rattle.mdcc_serve.proofs.Doings.{turns_are, turns_own}
 use Rattle.mdcc_serve.proofs.Rounds.{HaveGone, all_gone, next_gone, next_served, next_stopped, none_gone}
 use Rattle.mdcc_serve.specs.Centres.{AllFinish, AllStop, places}
-use Rattle.mdcc_site.specs.Moments.{outside}
+use Rattle.mdcc_serve_site.specs.Moments.{outside}
 use Rattle.mdcc_serve.proofs.turns.turn_of_all.Goals as goal
 
 pub loop-index-init : goal.loop-index-init

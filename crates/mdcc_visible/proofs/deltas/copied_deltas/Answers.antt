@@ -1,9 +1,9 @@
 use Rattle.std.proofs.Common.{rules, ◌≡◌, ℕ, List, ◌+◌, ◌++◌, take, option_to_list, ◌∙◌}
 use Rattle.mdcc_option.specs.declared.items.Delta.{Delta}
-use Rattle.mdcc_messages.specs.declared.facts.Fact.{Fact as AFact}
-use Rattle.mdcc_protocol.specs.Facts.{executed_of}
+use Rattle.mdcc_def_messages.specs.declared.facts.Fact.{Fact as AFact}
+use Rattle.mdcc_def_protocol.specs.Facts.{executed_of}
 use Rattle.mdcc_struct.specs.Maps.{txs_of}
-use Rattle.mdcc_visible.specs.Deltas.{deltas_in}
+use Rattle.mdcc_visible.specs.Deltas.{deltas_of_map}
 use Rattle.mdcc_visible.proofs.Executed.{next_executed, step_kept, step_pushed}
 use Rattle.mdcc_visible.proofs.deltas.copied_deltas.Goals as goal
 use Rattle.mdcc_visible.proofs.deltas.copied_deltas.Goals.{in-Some+in_ok-push, in_default}
@@ -19,7 +19,7 @@ loop-tx-preserved g c facts h = elim c.match-delta.branch [
 ]
   where
     made : List AFact → ℕ → List Delta
-    made facts i = take i (deltas_in (executed_of facts c.args.key.now))
+    made facts i = take i (deltas_of_map (executed_of facts c.args.key.now))
 
     next : (facts : List AFact) → g.S.FactStore.stands c.args.store.now facts → made facts (c.loop-tx.tx-index + 1) ≡ made facts c.loop-tx.tx-index ++ option_to_list c.delta.result
     next facts h =

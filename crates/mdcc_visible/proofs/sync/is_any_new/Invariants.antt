@@ -1,7 +1,7 @@
 use Rattle.std.proofs.Common.{◌≡◌, List, drop, is_some, not}
 use Rattle.std.specs.List.{list_any}
-use Rattle.mdcc_messages.specs.declared.facts.Fact.{Fact as AFact}
-use Rattle.mdcc_protocol.specs.Facts.{executed_of}
+use Rattle.mdcc_def_messages.specs.declared.facts.Fact.{Fact as AFact}
+use Rattle.mdcc_def_protocol.specs.Facts.{executed_of}
 use Rattle.mdcc_struct.specs.Maps.{value_of}
 use Rattle.mdcc_visible.proofs.sync.is_any_new.Given as goal
 

@@ -1,5 +1,5 @@
 use Rattle.std.proofs.Common.{arith}
-use Rattle.mdcc_messages.specs.ReadingParts.{entry_behind}
+use Rattle.mdcc_def_messages.specs.ReadingParts.{entry_behind}
 use Rattle.mdcc_wire.proofs.MarksLeft.{next_left, fault_ends}
 use Rattle.mdcc_wire.proofs.marks.next_mark.Goals as goal
 

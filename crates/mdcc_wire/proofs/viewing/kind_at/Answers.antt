@@ -1,5 +1,5 @@
 use Rattle.std.proofs.Common.{◌≡◌, ◌∙◌}
-use Rattle.mdcc_messages.specs.Spelling.{kind_of}
+use Rattle.mdcc_def_messages.specs.Spelling.{kind_of}
 use Rattle.mdcc_wire.proofs.Shown.{if_shown}
 use Rattle.mdcc_wire.proofs.viewing.kind_at.Goals as goal
 

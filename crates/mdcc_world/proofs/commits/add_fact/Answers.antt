@@ -1,7 +1,7 @@
 use Rattle.std.proofs.Common.{◌++◌, List, ap, ◌∙◌, append_assoc}
-use Rattle.mdcc_ledger.specs.Ledger.{Added}
-use Rattle.mdcc_simulation.specs.AppliedSteps.{chosen_lines, heard_lines}
-use Rattle.mdcc_language.specs.declared.lines.Line.{Line}
+use Rattle.mdcc_def_ledger.specs.Ledger.{Added}
+use Rattle.mdcc_def_simulation.specs.AppliedSteps.{chosen_lines, heard_lines}
+use Rattle.mdcc_def_language.specs.declared.lines.Line.{Line}
 use Rattle.mdcc_world.proofs.commits.add_fact.Goals as goal
 
 pub returns-clause-lines : goal.returns-clause-lines

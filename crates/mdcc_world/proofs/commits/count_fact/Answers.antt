@@ -1,11 +1,11 @@
 use Rattle.std.proofs.Common.{◌∷◌, ◌++◌, Bool, List, ℕ, ap, ◌∙◌, map, subst}
 use Rattle.mdcc_base.specs.declared.identifiers.TxId.{TxId}
-use Rattle.mdcc_outcomes.specs.Decided.{entry_decisions}
-use Rattle.mdcc_outcomes.specs.Represents.{RepresentsLedger}
-use Rattle.mdcc_ledger.specs.Ledger.{Added}
-use Rattle.mdcc_language.specs.declared.lines.Line.{Line}
+use Rattle.mdcc_world_decisions.specs.Decided.{entry_decisions}
+use Rattle.mdcc_world_decisions.specs.Represents.{RepresentsLedger}
+use Rattle.mdcc_def_ledger.specs.Ledger.{Added}
+use Rattle.mdcc_def_language.specs.declared.lines.Line.{Line}
 use Rattle.mdcc_world.proofs.Took.{chosen-is}
-use Rattle.mdcc_worlds.specs.StepEffects.{chosen_line}
+use Rattle.mdcc_theorem_worlds.specs.StepEffects.{chosen_line}
 use Rattle.mdcc_world.proofs.commits.count_fact.Goals as goal
 
 pub returns-clause-ledger : goal.returns-clause-ledger

@@ -1,5 +1,5 @@
 use Rattle.std.proofs.Common.{◌≡◌, ◌++◌, drop, map}
-use Rattle.mdcc_worlds.specs.StepEffects.{chosen_line}
+use Rattle.mdcc_theorem_worlds.specs.StepEffects.{chosen_line}
 use Rattle.mdcc_world.proofs.commits.push_chosen.Given as goal
 
 abbrev pub invariant-loop-ending : goal.invariant-loop-ending

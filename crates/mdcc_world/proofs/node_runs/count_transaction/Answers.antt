@@ -1,6 +1,6 @@
 use Rattle.std.proofs.Common.{Option, ◌++◌, subst}
 use Rattle.mdcc_base.specs.declared.identifiers.TxId.{TxId}
-use Rattle.mdcc_outcomes.specs.Represents.{RepresentsLedger}
+use Rattle.mdcc_world_decisions.specs.Represents.{RepresentsLedger}
 use Rattle.mdcc_world.specs.Report.{begun_entries}
 use Rattle.mdcc_world.proofs.node_runs.count_transaction.Goals as goal
 

@@ -1,11 +1,11 @@
 use Rattle.std.proofs.Common.{◌≡◌, ◌≤◌, Result, subst}
 use Rattle.mdcc_base.specs.Unless.{GivesUnless}
-use Rattle.mdcc_node.specs.StepPlans.{written}
+use Rattle.mdcc_node.specs.StepPlans.{unless_refused}
 use Rattle.mdcc_node.specs.StepAnswers.{step_result, is_step_memory}
-use Rattle.mdcc_ledger.specs.Ledger.{facts_of}
-use Rattle.mdcc_rules.specs.Steps.{NodeStep}
-use Rattle.mdcc_simulation.specs.State.{centre_at}
-use Rattle.mdcc_rules.specs.declared.node.StepFault.{StepFault}
+use Rattle.mdcc_def_ledger.specs.Ledger.{facts_of}
+use Rattle.mdcc_def_rules.specs.Steps.{NodeStep}
+use Rattle.mdcc_def_simulation.specs.State.{centre_at}
+use Rattle.mdcc_def_rules.specs.declared.node.StepFault.{StepFault}
 use Rattle.mdcc_world.proofs.NodesStay.{made-is, made-kept, node-under, runs-at, stepped}
 use Rattle.mdcc_world.proofs.Roomy.{node-left, step-roomy}
 use Rattle.mdcc_world.proofs.nodes.act_on.Goals as goal
@@ -29,7 +29,7 @@ returns-clause-answer c w standing up =
     let input = c.args.input.now in
     let gives = c.act_on.ensures.follows.answer w.cluster a (facts_of w.ledger a) (centre_at w a).volatile node.itself in
     made-is c.run_result.result c.act_on.result c.act_on.new.step _ c.run_result.ensures.same c.run_result.ensures.memory
-    (subst (λ (r : Result NodeStep StepFault). GivesUnless is_step_memory (written c.act_on.result c.act_on.new.step) (step_result r)) (step-roomy _ w.cluster a (facts_of w.ledger a) (centre_at w a).volatile node input) gives)
+    (subst (λ (r : Result NodeStep StepFault). GivesUnless is_step_memory (unless_refused c.act_on.result c.act_on.new.step) (step_result r)) (step-roomy _ w.cluster a (facts_of w.ledger a) (centre_at w a).volatile node input) gives)
 
 pub returns-clause-left : goal.returns-clause-left
 returns-clause-left c w world standing up =
@@ -44,4 +44,4 @@ returns-clause-left c w world standing up =
     let left = c.act_on.ensures.follows.left w.cluster a facts volatile node.itself in
     made-kept c.run_result.result c.act_on.result c.act_on.new.step _ c.run_result.ensures.memory
     (stepped c.args.nodes.now w a c.from.result c.act_on.new.self input standing world some c.requires.within place c.requires.formed _
-    (step-roomy _ w.cluster a facts volatile node input) (written c.act_on.result c.act_on.new.step) (node-left _ w.cluster a facts volatile node c.act_on.new.self (written c.act_on.result c.act_on.new.step) _ gives c.act_on.ensures.spent left))
+    (step-roomy _ w.cluster a facts volatile node input) (unless_refused c.act_on.result c.act_on.new.step) (node-left _ w.cluster a facts volatile node c.act_on.new.self (unless_refused c.act_on.result c.act_on.new.step) _ gives c.act_on.ensures.spent left))

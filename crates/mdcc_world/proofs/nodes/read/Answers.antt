@@ -1,10 +1,10 @@
 use Rattle.std.proofs.Common.{◌≡◌, Ok, refl}
 use Rattle.std.proofs.lemmas.Bool.{and_parts}
 use Rattle.mdcc_node.specs.StepAnswers.{step_result}
-use Rattle.mdcc_rules.specs.declared.node.Input.{Input}
-use Rattle.mdcc_simulation.specs.AppliedSteps.{step_at}
-use Rattle.mdcc_protocol.specs.Belongs.{is_centre}
-use Rattle.mdcc_simulation.specs.State.{centre_at}
+use Rattle.mdcc_def_rules.specs.declared.node.Input.{Input}
+use Rattle.mdcc_def_simulation.specs.AppliedSteps.{step_at}
+use Rattle.mdcc_def_protocol.specs.Belongs.{is_centre}
+use Rattle.mdcc_def_simulation.specs.State.{centre_at}
 use Rattle.mdcc_world.proofs.NodesStay.{read-left, shown-as}
 use Rattle.mdcc_world.proofs.nodes.read.Goals as goal
 

@@ -1,6 +1,6 @@
 use Rattle.std.proofs.Common.{IfOk, List, None, subst, ◌≡◌}
 use Rattle.mdcc_check.proofs.checker.Checker.commit.Goals as goal
-use Rattle.mdcc_check.specs.Verdicts.{Represents, after_commit, commit_cause}
+use Rattle.mdcc_check.specs.Verdicts.{RepresentsProgress, after_commit, commit_cause}
 use Rattle.mdcc_option.specs.Transaction.{choices_of}
 use Rattle.mdcc_option.specs.declared.items.Part.{Part}
 
@@ -11,5 +11,5 @@ returns-clause-cause c p r =
 
 pub returns-clause-after : goal.returns-clause-after
 returns-clause-after c p r =
-    subst (λ (parts : List Part). IfOk c.commit_parts.result (λ cause. cause ≡ None → Represents c.commit_parts.new.self (after_commit c.args.schema.now p c.args.tx.now (choices_of c.args.tx.now parts))))
+    subst (λ (parts : List Part). IfOk c.commit_parts.result (λ cause. cause ≡ None → RepresentsProgress c.commit_parts.new.self (after_commit c.args.schema.now p c.args.tx.now (choices_of c.args.tx.now parts))))
     c.parts.ensures.value (c.commit_parts.ensures.after p r)

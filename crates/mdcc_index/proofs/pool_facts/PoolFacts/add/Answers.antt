@@ -1,11 +1,11 @@
 use Rattle.std.proofs.Common.{ℕ, ◌∷◌, arith, length, length-append, ap, subst, sym, ◌∙◌}
 use Rattle.std.proofs.lemmas.List.{length-map}
 use Rattle.mdcc_base.specs.declared.key.Key.{Key}
-use Rattle.mdcc_fact_tables.proofs.Entries.{keys-in_cells, transactions-in_cells}
-use Rattle.mdcc_fact_index.proofs.InCells.{instances-in_cells}
-use Rattle.mdcc_fact_cells.proofs.Ticketed.{some-cells}
-use Rattle.mdcc_fact_folds.specs.Entered.{instances_in}
-use Rattle.mdcc_fact_index.specs.Entries.{entries_in}
+use Rattle.mdcc_cells_tables.proofs.Entries.{keys-in_cells, transactions-in_cells}
+use Rattle.mdcc_cells_indices.proofs.InCells.{instances-in_cells}
+use Rattle.mdcc_cells_facts.proofs.Ticketed.{some-cells}
+use Rattle.mdcc_theorem_fact_folds.specs.Entered.{instances_in}
+use Rattle.mdcc_cells_indices.specs.Entries.{entries_in}
 use Rattle.mdcc_index.specs.Stores.{Represents, store_of}
 use Rattle.mdcc_index.proofs.Adding.{AddsFact, represents-more}
 use Rattle.mdcc_index.proofs.pool_facts.PoolFacts.add.Goals as goal

@@ -1,5 +1,5 @@
 use Rattle.std.proofs.Common.{◌<◌, length, sym, subst, ◌∙◌, arith}
-use Rattle.mdcc_fact_index.proofs.Entered.{fact_at, held-length, stored-at}
+use Rattle.mdcc_cells_indices.proofs.Entered.{fact_at, held-length, stored-at}
 use Rattle.mdcc_index.specs.Stores.{Represents}
 use Rattle.mdcc_index.proofs.Reading.{entry-there}
 use Rattle.mdcc_index.proofs.Tied.{given-below}

@@ -1,7 +1,7 @@
 use Rattle.std.proofs.Common.{None, sym, ap, ◌∙◌}
 use Rattle.std.specs.List.{filter}
-use Rattle.mdcc_fact_folds.specs.Chains.{is_of_instance}
-use Rattle.mdcc_fact_folds.proofs.Walked.{choice-walk}
+use Rattle.mdcc_theorem_fact_folds.specs.Chains.{is_of_instance}
+use Rattle.mdcc_theorem_fact_folds.proofs.Walked.{choice-walk}
 use Rattle.mdcc_index.proofs.Stepped.{choice-stepped, votes-covered}
 use Rattle.mdcc_index.proofs.pool_facts.PoolFacts.choice_of.Goals as goal
 

@@ -2,12 +2,12 @@ use Rattle.std.proofs.Common.{◌≡◌, ◌≤◌, length, ap, ◌∙◌, arith
 use Rattle.std.specs.List.{filter, fold}
 use Rattle.std.specs.Prelude.{◌-◌, ◌^◌, is_some}
 use Rattle.mdcc_struct.specs.Maps.{value_of}
-use Rattle.mdcc_protocol.specs.Facts.{votes_of}
-use Rattle.mdcc_protocol.specs.Stores.{count_voted}
+use Rattle.mdcc_def_protocol.specs.Facts.{votes_of}
+use Rattle.mdcc_def_protocol.specs.Stores.{count_voted}
 use Rattle.mdcc_facts.proofs.Counting.{number-within}
-use Rattle.mdcc_fact_folds.specs.Chains.{is_of_instance}
-use Rattle.mdcc_fact_folds.specs.Live.{with_count}
-use Rattle.mdcc_fact_folds.proofs.Once.{count-fold}
+use Rattle.mdcc_theorem_fact_folds.specs.Chains.{is_of_instance}
+use Rattle.mdcc_theorem_fact_folds.specs.Live.{with_count}
+use Rattle.mdcc_theorem_fact_folds.proofs.Once.{count-fold}
 use Rattle.mdcc_index.proofs.Stepped.{count-stepped, count-stopped, votes-covered}
 use Rattle.mdcc_index.proofs.pool_facts.PoolFacts.count_voted.Goals as goal
 

@@ -1,7 +1,7 @@
 use Rattle.std.proofs.Common.{option_map, ap, ◌∙◌}
-use Rattle.mdcc_protocol.specs.Facts.{deltas_at}
+use Rattle.mdcc_def_protocol.specs.Facts.{deltas_at}
 use Rattle.mdcc_struct.specs.Maps.{value_of}
-use Rattle.mdcc_fact_folds.specs.Held.{delta_by}
+use Rattle.mdcc_theorem_fact_folds.specs.Held.{delta_by}
 use Rattle.mdcc_index.proofs.pool_facts.PoolFacts.delta.Goals as goal
 
 pub returns : goal.returns

@@ -1,8 +1,8 @@
 use Rattle.std.proofs.Common.{◌≡◌, ap, ◌∙◌}
 use Rattle.std.specs.List.{filter, fold}
-use Rattle.mdcc_protocol.specs.Facts.{current_of}
-use Rattle.mdcc_delta_steps.specs.Steps.{deltas_step, no_deltas}
-use Rattle.mdcc_delta_steps.proofs.Walked.{executed-are-noted}
+use Rattle.mdcc_def_protocol.specs.Facts.{current_of}
+use Rattle.mdcc_cells_delta_walk.specs.Steps.{deltas_step, no_deltas}
+use Rattle.mdcc_cells_delta_walk.proofs.Walked.{executed-are-noted}
 use Rattle.mdcc_index.proofs.Active.{active-chain, active-deltas, is_active_of}
 use Rattle.mdcc_index.proofs.pool_facts.PoolFacts.executed.Goals as goal
 

@@ -1,12 +1,12 @@
 use Rattle.std.proofs.Common.{◌≡◌, length, max, sym, subst, ap, ◌∙◌}
 use Rattle.std.specs.List.{filter}
 use Rattle.std.specs.Prelude.{nat_lt}
-use Rattle.mdcc_protocol.specs.Facts.{current_of, deltas_from}
+use Rattle.mdcc_def_protocol.specs.Facts.{current_of, deltas_from}
 use Rattle.mdcc_struct.specs.Maps.{union}
-use Rattle.mdcc_fact_folds.specs.Chains.{is_of_instance}
-use Rattle.mdcc_fact_folds.specs.Held.{next_executed, next_version_of}
-use Rattle.mdcc_fact_folds.proofs.Deltas.{deltas-chain}
-use Rattle.mdcc_fact_index.specs.Active.{is_active}
+use Rattle.mdcc_theorem_fact_folds.specs.Chains.{is_of_instance}
+use Rattle.mdcc_theorem_fact_folds.specs.Held.{next_executed, next_version_of}
+use Rattle.mdcc_theorem_fact_folds.proofs.Deltas.{deltas-chain}
+use Rattle.mdcc_cells_indices.specs.Active.{is_active}
 use Rattle.mdcc_index.specs.Stores.{Represents}
 use Rattle.mdcc_index.proofs.Active.{active-chain, active-deltas, is_active_of}
 use Rattle.mdcc_index.proofs.Tied.{active-below}

@@ -1,5 +1,5 @@
 use Rattle.std.proofs.Common.{◌∙◌, subst, sym}
-use Rattle.mdcc_fact_index.proofs.Endings.{heard-known}
+use Rattle.mdcc_cells_indices.proofs.Endings.{heard-known}
 use Rattle.mdcc_index.specs.Stores.{Represents}
 use Rattle.mdcc_index.proofs.pool_facts.PoolFacts.is_heard.Goals as goal
 

@@ -1,11 +1,11 @@
 use Rattle.std.proofs.Common.{sym, subst, ap, ◌∙◌}
 use Rattle.std.specs.List.{filter}
 use Rattle.mdcc_escrow.specs.Weights.{no_load}
-use Rattle.mdcc_fact_folds.specs.Chains.{is_of_instance}
-use Rattle.mdcc_fact_folds.specs.Live.{load_steps}
-use Rattle.mdcc_fact_folds.proofs.Steps.{load-steps}
-use Rattle.mdcc_protocol.specs.Plain.{plain_is_void}
-use Rattle.mdcc_fact_index.specs.Active.{is_active}
+use Rattle.mdcc_theorem_fact_folds.specs.Chains.{is_of_instance}
+use Rattle.mdcc_theorem_fact_folds.specs.Live.{load_steps}
+use Rattle.mdcc_theorem_fact_folds.proofs.Steps.{load-steps}
+use Rattle.mdcc_def_protocol.specs.Plain.{plain_is_void}
+use Rattle.mdcc_cells_indices.specs.Active.{is_active}
 use Rattle.mdcc_index.specs.Stores.{Represents}
 use Rattle.mdcc_index.proofs.Active.{load-active}
 use Rattle.mdcc_index.proofs.Reading.{void-told}

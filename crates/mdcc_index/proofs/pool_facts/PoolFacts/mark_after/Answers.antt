@@ -2,10 +2,10 @@ use Rattle.std.proofs.Common.{◌≡◌, None, false, sym, ap, ◌∙◌}
 use Rattle.std.specs.List.{filter}
 use Rattle.std.specs.Prelude.{if◌then◌else◌}
 use Rattle.mdcc_base.specs.Ballot.{is_fast}
-use Rattle.mdcc_fact_folds.specs.Chains.{is_of_instance}
-use Rattle.mdcc_fact_folds.specs.Votes.{mark_walks}
-use Rattle.mdcc_fact_folds.proofs.Present.{after-walks}
-use Rattle.mdcc_fact_folds.proofs.Walked.{below-walk}
+use Rattle.mdcc_theorem_fact_folds.specs.Chains.{is_of_instance}
+use Rattle.mdcc_theorem_fact_folds.specs.Votes.{mark_walks}
+use Rattle.mdcc_theorem_fact_folds.proofs.Present.{after-walks}
+use Rattle.mdcc_theorem_fact_folds.proofs.Walked.{below-walk}
 use Rattle.mdcc_index.specs.Marks.{next_marked}
 use Rattle.mdcc_index.proofs.Stepped.{votes-covered}
 use Rattle.mdcc_index.proofs.pool_facts.PoolFacts.mark_after.Goals as goal

@@ -1,6 +1,6 @@
 use Rattle.std.proofs.Common.{None, ap, ◌∙◌}
 use Rattle.std.specs.List.{filter}
-use Rattle.mdcc_fact_folds.specs.Chains.{is_of_instance}
+use Rattle.mdcc_theorem_fact_folds.specs.Chains.{is_of_instance}
 use Rattle.mdcc_index.proofs.Stepped.{mark-stepped}
 use Rattle.mdcc_index.proofs.pool_facts.PoolFacts.mark_at.Goals as goal
 

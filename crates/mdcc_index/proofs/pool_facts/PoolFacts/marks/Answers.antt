@@ -1,7 +1,7 @@
 use Rattle.std.proofs.Common.{◌≡◌, suc, sym, ◌∙◌, arith}
 use Rattle.std.specs.Prelude.{◌-◌}
-use Rattle.mdcc_protocol.specs.Plain.{plain_mark_after}
-use Rattle.mdcc_fact_folds.proofs.Present.{place-steps}
+use Rattle.mdcc_def_protocol.specs.Plain.{plain_mark_after}
+use Rattle.mdcc_theorem_fact_folds.proofs.Present.{place-steps}
 use Rattle.mdcc_index.proofs.Marked.{further-none, further-some}
 use Rattle.mdcc_index.proofs.pool_facts.PoolFacts.marks.Goals as goal
 

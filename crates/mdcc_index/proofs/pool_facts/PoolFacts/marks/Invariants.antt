@@ -1,7 +1,7 @@
 use Rattle.std.proofs.Common.{◌≡◌, List}
-use Rattle.mdcc_messages.specs.declared.facts.Fact.{Fact}
-use Rattle.mdcc_protocol.specs.Plain.{plain_mark_after, plain_mark_below}
-use Rattle.mdcc_fact_folds.specs.Votes.{marks_further}
+use Rattle.mdcc_def_messages.specs.declared.facts.Fact.{Fact}
+use Rattle.mdcc_def_protocol.specs.Plain.{plain_mark_after, plain_mark_below}
+use Rattle.mdcc_theorem_fact_folds.specs.Votes.{marks_further}
 use Rattle.mdcc_index.specs.Stores.{Represents}
 use Rattle.mdcc_index.proofs.pool_facts.PoolFacts.marks.Given as goal
 

@@ -1,7 +1,7 @@
 use Rattle.std.proofs.Common.{length, sym, subst, ap, ◌∙◌, arith}
 use Rattle.std.specs.Option.{option_and_then}
-use Rattle.mdcc_fact_tables.specs.UnresolvedNumbers.{with_write_set}
-use Rattle.mdcc_fact_tables.proofs.UnresolvedRead.{unresolved-read}
+use Rattle.mdcc_cells_tables.specs.UnresolvedNumbers.{with_write_set}
+use Rattle.mdcc_cells_tables.proofs.UnresolvedRead.{unresolved-read}
 use Rattle.mdcc_index.specs.Stores.{Represents}
 use Rattle.mdcc_index.proofs.Tied.{unresolved-below}
 use Rattle.mdcc_index.proofs.pool_facts.PoolFacts.unresolved.Goals as goal

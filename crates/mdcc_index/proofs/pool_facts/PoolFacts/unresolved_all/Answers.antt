@@ -1,5 +1,5 @@
 use Rattle.std.proofs.Common.{◌++◌, ◌∷◌, [], take, sym, ap, ◌∙◌, add-one}
-use Rattle.mdcc_protocol.specs.Plain.{plain_unresolved_of}
+use Rattle.mdcc_def_protocol.specs.Plain.{plain_unresolved_of}
 use Rattle.mdcc_index.proofs.Marked.{take-none, take-one}
 use Rattle.mdcc_index.proofs.pool_facts.PoolFacts.unresolved_all.Goals.{in-Some+in_ok-push, in_default}
 use Rattle.mdcc_index.proofs.pool_facts.PoolFacts.unresolved_all.Goals as goal

@@ -1,10 +1,10 @@
 use Rattle.std.proofs.Common.{sym, ap, ◌∙◌}
 use Rattle.std.specs.List.{filter}
 use Rattle.mdcc_base.specs.Ballot.{fast_ballot}
-use Rattle.mdcc_fact_folds.specs.Chains.{is_of_instance}
-use Rattle.mdcc_fact_folds.proofs.Walked.{below-walk}
-use Rattle.mdcc_fact_folds.specs.Votes.{with_ballot}
-use Rattle.mdcc_fact_index.specs.Active.{is_active}
+use Rattle.mdcc_theorem_fact_folds.specs.Chains.{is_of_instance}
+use Rattle.mdcc_theorem_fact_folds.proofs.Walked.{below-walk}
+use Rattle.mdcc_theorem_fact_folds.specs.Votes.{with_voted_ballot}
+use Rattle.mdcc_cells_indices.specs.Active.{is_active}
 use Rattle.mdcc_index.proofs.Active.{fold-active, same-ballot}
 use Rattle.mdcc_index.proofs.Stepped.{ballot-stepped, votes-covered}
 use Rattle.mdcc_index.proofs.pool_facts.PoolFacts.voted_below.Goals as goal
@@ -15,5 +15,5 @@ returns c facts kept =
     let version = c.args.version in
     ap (λ s. s.ballot) (c.walk_active.ensures facts kept)
     ∙ ballot-stepped key version c.args.below fast_ballot (filter (is_of_instance key version) (filter is_active facts))
-    ∙ fold-active (with_ballot key version c.args.below) (λ ballot fact idle. same-ballot key version c.args.below ballot fact idle) (is_of_instance key version) fast_ballot facts
+    ∙ fold-active (with_voted_ballot key version c.args.below) (λ ballot fact idle. same-ballot key version c.args.below ballot fact idle) (is_of_instance key version) fast_ballot facts
     ∙ sym (below-walk (is_of_instance key version) key version c.args.below (votes-covered key version) facts)

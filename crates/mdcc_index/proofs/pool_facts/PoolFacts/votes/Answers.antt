@@ -1,11 +1,11 @@
 use Rattle.std.proofs.Common.{◌≡◌, sym, subst, ap, ◌∙◌}
 use Rattle.std.specs.List.{filter, fold}
 use Rattle.std.specs.Prelude.{IfOk, OnOk}
-use Rattle.mdcc_fact_folds.specs.Chains.{is_of_instance}
-use Rattle.mdcc_fact_folds.proofs.Joined.{votes-walk}
-use Rattle.mdcc_vote_steps.specs.Gathered.{oldest_marks, with_gathered}
-use Rattle.mdcc_vote_steps.proofs.GatheredVotes.{gathered-votes}
-use Rattle.mdcc_fact_index.specs.Entries.{is_any}
+use Rattle.mdcc_theorem_fact_folds.specs.Chains.{is_of_instance}
+use Rattle.mdcc_theorem_fact_folds.proofs.Joined.{votes-walk}
+use Rattle.mdcc_cells_vote_walk.specs.Gathered.{oldest_marks, with_gathered}
+use Rattle.mdcc_cells_vote_walk.proofs.GatheredVotes.{gathered-votes}
+use Rattle.mdcc_cells_indices.specs.Entries.{is_any}
 use Rattle.mdcc_index.specs.Stores.{Represents}
 use Rattle.mdcc_index.proofs.Active.{any-kept}
 use Rattle.mdcc_index.proofs.Reading.{ordered-filtered}

@@ -1,7 +1,7 @@
 use Rattle.std.proofs.Common.{sym, subst, ap, ◌∙◌}
 use Rattle.std.specs.List.{filter, fold}
-use Rattle.mdcc_fact_folds.specs.Chains.{is_of_instance}
-use Rattle.mdcc_fact_index.specs.Entries.{is_any}
+use Rattle.mdcc_theorem_fact_folds.specs.Chains.{is_of_instance}
+use Rattle.mdcc_cells_indices.specs.Entries.{is_any}
 use Rattle.mdcc_index.specs.Stores.{Represents}
 use Rattle.mdcc_index.proofs.Active.{any-kept}
 use Rattle.mdcc_index.proofs.Tied.{instances-below}

@@ -1,5 +1,5 @@
 use Rattle.std.proofs.Common.{sym, subst}
-use Rattle.mdcc_fact_index.specs.Active.{is_active}
+use Rattle.mdcc_cells_indices.specs.Active.{is_active}
 use Rattle.mdcc_index.specs.Stores.{Represents}
 use Rattle.mdcc_index.proofs.Tied.{active-below}
 use Rattle.mdcc_index.proofs.pool_facts.PoolFacts.walk_active.Goals as goal

@@ -1,9 +1,9 @@
 use Rattle.std.proofs.Common.{None, sym, ap, ◌∙◌}
 use Rattle.std.specs.List.{filter, fold}
-use Rattle.mdcc_fact_folds.specs.Chains.{is_of_instance}
-use Rattle.mdcc_fact_folds.specs.Held.{older_amounts}
-use Rattle.mdcc_fact_index.specs.Active.{is_active}
-use Rattle.mdcc_delta_steps.proofs.Walked.{amounts-are-folded}
+use Rattle.mdcc_theorem_fact_folds.specs.Chains.{is_of_instance}
+use Rattle.mdcc_theorem_fact_folds.specs.Held.{older_amounts}
+use Rattle.mdcc_cells_indices.specs.Active.{is_active}
+use Rattle.mdcc_cells_delta_walk.proofs.Walked.{amounts-are-folded}
 use Rattle.mdcc_index.proofs.Active.{active-chain, active-deltas, is_active_of}
 use Rattle.mdcc_index.proofs.Amounts.{amounts-walk}
 use Rattle.mdcc_index.proofs.pool_facts.PoolFacts.walked_amounts.Goals as goal

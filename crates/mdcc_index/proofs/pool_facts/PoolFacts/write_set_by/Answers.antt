@@ -1,6 +1,6 @@
 use Rattle.std.proofs.Common.{◌<◌, length, sym, subst, ap, ◌∙◌, arith}
-use Rattle.mdcc_fact_tables.proofs.UnresolvedRead.{write_set-read}
-use Rattle.mdcc_fact_index.proofs.Entered.{fact_at, held-length, stored-at}
+use Rattle.mdcc_cells_tables.proofs.UnresolvedRead.{write_set-read}
+use Rattle.mdcc_cells_indices.proofs.Entered.{fact_at, held-length, stored-at}
 use Rattle.mdcc_index.specs.Stores.{Represents}
 use Rattle.mdcc_index.proofs.Reading.{entry-there}
 use Rattle.mdcc_index.proofs.pool_facts.PoolFacts.write_set_by.Goals as goal

@@ -2,8 +2,8 @@ use Rattle.std.proofs.Common.{◌≡◌, [], Option, Some, None, Ok, false, true
 use Rattle.mdcc_leader.proofs.Structured.{IfOk-map, OnOk-map, judged-some, led_on-put, none-from}
 use Rattle.mdcc_leader.proofs.lead.Lead.extend.Goals as goal
 use Rattle.mdcc_leader.specs.Extending.{judged}
-use Rattle.mdcc_protocol.specs.Structures.{mark_of_choice}
-use Rattle.mdcc_protocol.specs.Volatile.{Lead, structure_at}
+use Rattle.mdcc_def_protocol.specs.Structures.{mark_of_choice}
+use Rattle.mdcc_def_protocol.specs.Volatile.{Lead, structure_at}
 use Rattle.mdcc_struct.specs.Maps.{value_of}
 
 pub send_with-requires : goal.send_with-requires

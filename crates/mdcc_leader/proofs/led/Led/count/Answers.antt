@@ -3,7 +3,7 @@ use Rattle.std.proofs.lemmas.Bool.Decides.{nat_tests}
 use Rattle.mdcc_leader.proofs.Counts.{none-counts, one-more}
 use Rattle.mdcc_leader.proofs.Keeping.{Keeps-counted-by}
 use Rattle.mdcc_leader.proofs.led.Led.count.Goals as goal
-use Rattle.mdcc_protocol.specs.Leader.{is_promise_counted}
+use Rattle.mdcc_def_protocol.specs.Leader.{is_promise_counted}
 
 pub returns-then-is_full-clause-answer : goal.returns-then-is_full-clause-answer
 returns-then-is_full-clause-answer g c facts leading holds kept =

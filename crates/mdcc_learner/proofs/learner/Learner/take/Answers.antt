@@ -1,4 +1,4 @@
-use Rattle.mdcc_protocol.specs.Learner.{with_vote}
+use Rattle.mdcc_def_protocol.specs.Learner.{with_counted_vote}
 use Rattle.mdcc_learner.proofs.Taken.{votes_on-with_vote, knows-still}
 use Rattle.mdcc_learner.proofs.learner.Learner.take.Goals as goal
 
@@ -8,7 +8,7 @@ returns-else-is_none-clause-ok c votes stands =
     let vote = c.args.vote.now in
     record {
       meet = stands.meet;
-      knows = knows-still c.args.self.now.quorums quorums votes (with_vote quorums votes vote) c.if-is_none.ensures stands.knows;
+      knows = knows-still c.args.self.now.quorums quorums votes (with_counted_vote quorums votes vote) c.if-is_none.ensures stands.knows;
       keeps = λ tx key.
           rw (
             c.in_ok-keep_counted.ensures.ok tx key,

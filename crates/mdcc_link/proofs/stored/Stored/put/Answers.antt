@@ -3,7 +3,7 @@ use Rattle.mdcc_link.specs.declared.stored.Note.{Note}
 use Rattle.mdcc_link.specs.declared.stored.Dispatch.{Dispatch}
 use Rattle.mdcc_link.specs.declared.stored.Pending.{Pending}
 use Rattle.mdcc_link.specs.Memory.{arrived}
-use Rattle.mdcc_link.specs.Stored.{Store, pending_after}
+use Rattle.mdcc_link.specs.Stored.{LinkStore, pending_after}
 use Rattle.mdcc_link.proofs.Pieces.{new_bytes, new_within, grown_within}
 use Rattle.mdcc_link.proofs.Queues.{arrived_waiting, arrived_within}
 use Rattle.mdcc_link.proofs.Storing.{store_is, calls_stay, sent_stay}
@@ -32,8 +32,8 @@ returns-clause-store c =
     let waits : c.let_wait.new.queue.items ≡ pending_after (Some c.args.at) c.store-piece.result c.self.inside.queue.items = search rules in
     let made = new_bytes c.store-piece.result pool grown bytes c.store-piece.ensures.piece c.store-piece.ensures.items in
     store_is _ _ _ _ _ _ _ _ _ _
-    (calls_stay c.self.inside.notes.items pool grown bytes now.calls c.self.invariant.calls (ap (λ (s : Store). s.calls) c.self.view_is) c.store-piece.ensures.items)
-    (ap (λ (s : Store). s.bound) c.self.view_is)
-    (sent_stay c.self.inside.sends.items pool grown bytes now.sent c.self.invariant.sent (ap (λ (s : Store). s.sent) c.self.view_is) c.store-piece.ensures.items)
+    (calls_stay c.self.inside.notes.items pool grown bytes now.calls c.self.invariant.calls (ap (λ (s : LinkStore). s.calls) c.self.view_is) c.store-piece.ensures.items)
+    (ap (λ (s : LinkStore). s.bound) c.self.view_is)
+    (sent_stay c.self.inside.sends.items pool grown bytes now.sent c.self.invariant.sent (ap (λ (s : LinkStore). s.sent) c.self.view_is) c.store-piece.ensures.items)
     (arrived_waiting (Some c.args.at) c.store-piece.result c.self.inside.queue.items c.let_wait.new.queue.items pool grown bytes bytes c.self.invariant.waiting c.store-piece.ensures.items waits made
-    ∙ ap (λ (s : Store). arrived (Some c.args.at) bytes s.waiting) c.self.view_is)
+    ∙ ap (λ (s : LinkStore). arrived (Some c.args.at) bytes s.waiting) c.self.view_is)

@@ -6,7 +6,7 @@ use Rattle.mdcc_link.specs.declared.stored.Dispatch.{Dispatch}
 use Rattle.mdcc_link.specs.declared.stored.Pending.{Pending}
 use Rattle.mdcc_link.specs.Link.LinkCall.{Send}
 use Rattle.mdcc_link.specs.Memory.{SentDatagram, arrived, endpoint_of, sent_after, waiting_after}
-use Rattle.mdcc_link.specs.Stored.{Store, pending_after}
+use Rattle.mdcc_link.specs.Stored.{LinkStore, pending_after}
 use Rattle.mdcc_link.proofs.Pieces.{new_bytes, new_within, grown_within, pushed_within}
 use Rattle.mdcc_link.proofs.Queues.{arrived_waiting, arrived_within, waiting_stay}
 use Rattle.mdcc_link.proofs.Storing.{store_is, calls_push, sent_push, sent_stay}
@@ -63,15 +63,15 @@ returns-in-Ok-clause-store c =
     let made = new_bytes c.store-piece.result pool grown bytes c.store-piece.ensures.piece c.store-piece.ensures.items in
     store_is _ _ _ _ _ _ _ _ _ _
     (calls_push c.self.inside.notes.items c.add.new.list.items note pool grown bytes now.calls (Send c.args.from c.args.to bytes c.args.answer) c.self.invariant.calls
-    (ap (λ (s : Store). s.calls) c.self.view_is) c.store-piece.ensures.items noted_is (ap (λ (b : List ℕ). Send c.args.from c.args.to b c.args.answer) made))
-    (ap (λ (s : Store). s.bound) c.self.view_is)
-    (sent_push c.self.inside.sends.items c.add-in-Ok.new.list.items last pool grown bytes now.sent datagram c.self.invariant.sent (ap (λ (s : Store). s.sent) c.self.view_is)
+    (ap (λ (s : LinkStore). s.calls) c.self.view_is) c.store-piece.ensures.items noted_is (ap (λ (b : List ℕ). Send c.args.from c.args.to b c.args.answer) made))
+    (ap (λ (s : LinkStore). s.bound) c.self.view_is)
+    (sent_push c.self.inside.sends.items c.add-in-Ok.new.list.items last pool grown bytes now.sent datagram c.self.invariant.sent (ap (λ (s : LinkStore). s.sent) c.self.view_is)
     c.store-piece.ensures.items sent_is (ap (λ (b : List ℕ). record { from = c.args.from; to = c.args.to; bytes = b }) made)
     ∙ sym (ap (λ (a : Result (Unit {0}) Failed). sent_after (Send c.args.from c.args.to bytes a) now.sent) c.in-Ok.is))
     (arrived_waiting c.endpoint_of-at.result c.store-piece.result c.self.inside.queue.items c.let_wait.new.queue.items pool grown bytes bytes c.self.invariant.waiting c.store-piece.ensures.items waits made
-    ∙ ap (λ (s : Store). arrived c.endpoint_of-at.result bytes s.waiting) c.self.view_is
+    ∙ ap (λ (s : LinkStore). arrived c.endpoint_of-at.result bytes s.waiting) c.self.view_is
     ∙ ap (λ (o : Option ℕ). arrived o bytes now.waiting) ends
-    ∙ ap (λ (s : Store). arrived (endpoint_of s.bound c.args.to) bytes now.waiting) c.self.view_is
+    ∙ ap (λ (s : LinkStore). arrived (endpoint_of s.bound c.args.to) bytes now.waiting) c.self.view_is
     ∙ sym (ap (λ (a : Result (Unit {0}) Failed). waiting_after (Send c.args.from c.args.to bytes a) now.bound now.waiting) c.in-Ok.is))
 
 pub returns-in-Err-clause-store : goal.returns-in-Err-clause-store
@@ -85,9 +85,9 @@ returns-in-Err-clause-store c =
     let made = new_bytes c.store-piece.result pool grown bytes c.store-piece.ensures.piece c.store-piece.ensures.items in
     store_is _ _ _ _ _ _ _ _ _ _
     (calls_push c.self.inside.notes.items c.add.new.list.items note pool grown bytes now.calls (Send c.args.from c.args.to bytes c.args.answer) c.self.invariant.calls
-    (ap (λ (s : Store). s.calls) c.self.view_is) c.store-piece.ensures.items noted_is (ap (λ (b : List ℕ). Send c.args.from c.args.to b c.args.answer) made))
-    (ap (λ (s : Store). s.bound) c.self.view_is)
-    (sent_stay c.self.inside.sends.items pool grown bytes now.sent c.self.invariant.sent (ap (λ (s : Store). s.sent) c.self.view_is) c.store-piece.ensures.items
+    (ap (λ (s : LinkStore). s.calls) c.self.view_is) c.store-piece.ensures.items noted_is (ap (λ (b : List ℕ). Send c.args.from c.args.to b c.args.answer) made))
+    (ap (λ (s : LinkStore). s.bound) c.self.view_is)
+    (sent_stay c.self.inside.sends.items pool grown bytes now.sent c.self.invariant.sent (ap (λ (s : LinkStore). s.sent) c.self.view_is) c.store-piece.ensures.items
     ∙ sym (ap (λ (a : Result (Unit {0}) Failed). sent_after (Send c.args.from c.args.to bytes a) now.sent) c.in-Err.is))
-    (waiting_stay c.self.inside.queue.items pool grown bytes now.waiting c.self.invariant.waiting (ap (λ (s : Store). s.waiting) c.self.view_is) c.store-piece.ensures.items
+    (waiting_stay c.self.inside.queue.items pool grown bytes now.waiting c.self.invariant.waiting (ap (λ (s : LinkStore). s.waiting) c.self.view_is) c.store-piece.ensures.items
     ∙ sym (ap (λ (a : Result (Unit {0}) Failed). waiting_after (Send c.args.from c.args.to bytes a) now.bound now.waiting) c.in-Err.is))

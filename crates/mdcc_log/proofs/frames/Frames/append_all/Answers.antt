@@ -1,5 +1,5 @@
 use Rattle.std.proofs.Common.{inl}
-use Rattle.mdcc_log.specs.Groups.{joined}
+use Rattle.mdcc_log.specs.Groups.{with_payloads}
 use Rattle.mdcc_log.proofs.Groups.{rest_reads, unwritten, unwritten_other}
 use Rattle.mdcc_log.proofs.frames.Frames.append_all.Goals as goal
 
@@ -12,4 +12,4 @@ pub returns-then-are_full-clause-any_moment : goal.returns-then-are_full-clause-
 returns-then-are_full-clause-any_moment g c log told there uses = unwritten g.D.Disks.disk g.D.Disks.may_leave g.D.Disks.moment g.D.Disks.left_since g.met.D.Disks.only_now c.args.disks.now c.args.self.now log c.args.payloads.now uses
 
 pub returns-then-are_full-clause-any_moment_other : goal.returns-then-are_full-clause-any_moment_other
-returns-then-are_full-clause-any_moment_other g c log told there uses spare = unwritten_other g.D.Disks.disk g.D.Disks.may_leave g.D.Disks.moment g.D.Disks.left_since g.met.D.Disks.only_now c.args.disks.now c.args.self.now (joined log c.args.payloads.now) uses.generation spare
+returns-then-are_full-clause-any_moment_other g c log told there uses spare = unwritten_other g.D.Disks.disk g.D.Disks.may_leave g.D.Disks.moment g.D.Disks.left_since g.met.D.Disks.only_now c.args.disks.now c.args.self.now (with_payloads log c.args.payloads.now) uses.generation spare

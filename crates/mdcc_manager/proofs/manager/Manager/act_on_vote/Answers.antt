@@ -1,5 +1,5 @@
 use Rattle.std.proofs.Common.{◌≡◌, ◌∙◌, refl, sym}
-use Rattle.mdcc_protocol.specs.Manager.{decision}
+use Rattle.mdcc_def_protocol.specs.Manager.{decision}
 use Rattle.mdcc_manager.proofs.Acts.{act-collided, act-decided, act-quiet, left-decided, undecided-none}
 use Rattle.mdcc_manager.proofs.manager.Manager.act_on_vote.Goals as goal
 

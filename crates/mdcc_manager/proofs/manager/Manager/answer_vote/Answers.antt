@@ -1,4 +1,4 @@
-use Rattle.mdcc_protocol.specs.Manager.{vote_taken}
+use Rattle.mdcc_def_protocol.specs.Manager.{vote_taken}
 use Rattle.mdcc_manager.proofs.manager.Manager.answer_vote.Goals as goal
 
 pub returns-clause-act : goal.returns-clause-act

@@ -1,6 +1,6 @@
 use Rattle.std.proofs.Common.{◌≡◌, None, Some, rules, ◌∙◌}
 use Rattle.mdcc_manager.proofs.Kept.{found-kept, none-found, unled-found}
-use Rattle.mdcc_protocol.specs.Volatile.{opened_of}
+use Rattle.mdcc_def_protocol.specs.Volatile.{opened_of}
 use Rattle.mdcc_manager.proofs.manager.Manager.choice_unled.Goals as goal
 
 pub returns : goal.returns

@@ -2,7 +2,7 @@ use Rattle.std.proofs.Common.{not}
 use Rattle.mdcc_base.specs.TxId.{tx_eq}
 use Rattle.mdcc_manager.proofs.Kept.{filter-kept, filter-txs}
 use Rattle.mdcc_manager.proofs.Numbered.{numbered-filter}
-use Rattle.mdcc_protocol.specs.Volatile.{txs_opened}
+use Rattle.mdcc_def_protocol.specs.Volatile.{txs_opened}
 use Rattle.mdcc_manager.proofs.manager.Manager.close.Goals as goal
 
 pub returns : goal.returns

@@ -1,6 +1,6 @@
 use Rattle.std.proofs.Common.{◌≡◌, None, Some, rules, ◌∙◌}
 use Rattle.mdcc_manager.proofs.Kept.{decision-found, found-kept, none-found}
-use Rattle.mdcc_protocol.specs.Volatile.{opened_of}
+use Rattle.mdcc_def_protocol.specs.Volatile.{opened_of}
 use Rattle.mdcc_manager.proofs.manager.Manager.decision.Goals as goal
 
 pub returns : goal.returns

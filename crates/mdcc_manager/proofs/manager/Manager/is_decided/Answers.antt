@@ -1,7 +1,7 @@
 use Rattle.std.proofs.Common.{◌≡◌, None, Some, ap, ◌∙◌}
 use Rattle.std.specs.Prelude.{is_some}
-use Rattle.mdcc_protocol.specs.Learner.{learned}
-use Rattle.mdcc_protocol.specs.Volatile.{opened_of}
+use Rattle.mdcc_def_protocol.specs.Learner.{learned}
+use Rattle.mdcc_def_protocol.specs.Volatile.{opened_of}
 use Rattle.mdcc_manager.proofs.Kept.{decision-found, found-kept, none-found}
 use Rattle.mdcc_manager.proofs.Sides.{sides-decide}
 use Rattle.mdcc_manager.proofs.manager.Manager.is_decided.Goals as goal

@@ -2,7 +2,7 @@ use Rattle.std.proofs.Common.{◌∙◌}
 use Rattle.std.specs.Option.{option_copied}
 use Rattle.mdcc_facts.proofs.Marked.{copied-some}
 use Rattle.mdcc_manager.proofs.Kept.{found-kept, some-found}
-use Rattle.mdcc_protocol.specs.Volatile.{opened_of}
+use Rattle.mdcc_def_protocol.specs.Volatile.{opened_of}
 use Rattle.mdcc_manager.proofs.manager.Manager.is_open.Goals as goal
 
 pub returns : goal.returns

@@ -1,7 +1,7 @@
 use Rattle.std.proofs.Common.{◌≡◌, true, is_ok, rules}
 use Rattle.std.proofs.lemmas.List.{map-append}
 use Rattle.mdcc_manager.proofs.Numbered.{numbered-begun}
-use Rattle.mdcc_protocol.specs.Volatile.{txs_opened}
+use Rattle.mdcc_def_protocol.specs.Volatile.{txs_opened}
 use Rattle.mdcc_manager.proofs.manager.Manager.open.Goals as goal
 
 pub returns-clause-ok : goal.returns-clause-ok

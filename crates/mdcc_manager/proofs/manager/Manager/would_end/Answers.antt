@@ -1,6 +1,6 @@
 use Rattle.std.proofs.Common.{◌≡◌, None, Some, ap, ◌∙◌}
 use Rattle.std.specs.Prelude.{is_some}
-use Rattle.mdcc_protocol.specs.Learner.{learned_with}
+use Rattle.mdcc_def_protocol.specs.Learner.{learned_with}
 use Rattle.mdcc_manager.proofs.Kept.{found-kept, would_decide-found, would_decide-none}
 use Rattle.mdcc_manager.proofs.Sides.{sides-decide}
 use Rattle.mdcc_manager.proofs.manager.Manager.would_end.Goals as goal

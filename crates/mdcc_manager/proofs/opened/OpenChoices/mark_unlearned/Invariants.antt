@@ -2,7 +2,7 @@ use Rattle.std.proofs.Common.{◌≡◌, ◌++◌, List, drop, map, take}
 use Rattle.mdcc_base.specs.Sizes.{Sizes}
 use Rattle.mdcc_learner.specs.Represents.{RepresentsVotes}
 use Rattle.mdcc_manager.specs.Ticks.{led_unlearned}
-use Rattle.mdcc_protocol.specs.declared.votes.Vote.{Vote}
+use Rattle.mdcc_def_protocol.specs.declared.votes.Vote.{Vote}
 use Rattle.mdcc_manager.proofs.opened.OpenChoices.mark_unlearned.Given as goal
 
 abbrev pub invariant-loop-open : goal.invariant-loop-open

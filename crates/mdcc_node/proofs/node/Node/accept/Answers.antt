@@ -1,5 +1,5 @@
-use Rattle.mdcc_protocol.specs.Volatile.{initial_volatile}
-use Rattle.mdcc_rules.specs.AcceptorRules.{accept_step}
+use Rattle.mdcc_def_protocol.specs.Volatile.{initial_volatile}
+use Rattle.mdcc_def_rules.specs.AcceptorRules.{accept_step}
 use Rattle.mdcc_node.proofs.Ending.{accept-adds, follows-planned}
 use Rattle.mdcc_node.proofs.node.Node.accept.Goals as goal
 

@@ -1,6 +1,6 @@
 use Rattle.std.proofs.Common.{◌≡◌, ◌∷◌, Some, refl}
-use Rattle.mdcc_protocol.specs.Marks.{is_commit}
-use Rattle.mdcc_rules.specs.Steps.{heard_by}
+use Rattle.mdcc_def_protocol.specs.Marks.{is_commit}
+use Rattle.mdcc_def_rules.specs.Steps.{heard_by}
 use Rattle.mdcc_node.proofs.node.Node.add.Goals as goal
 
 pub returns-in-Heard-clause-ok : goal.returns-in-Heard-clause-ok

@@ -1,7 +1,7 @@
 use Rattle.mdcc_node.proofs.Beginning.{refused_gives, refused_leaves, step_begun}
 use Rattle.mdcc_node.proofs.Standing.{left_always, memory_always}
-use Rattle.mdcc_node.specs.StepPlans.{written}
-use Rattle.mdcc_protocol.specs.Facts.{epoch_of}
+use Rattle.mdcc_node.specs.StepPlans.{unless_refused}
+use Rattle.mdcc_def_protocol.specs.Facts.{epoch_of}
 use Rattle.mdcc_node.proofs.node.Node.begin.Goals as goal
 
 pub returns-in-Ok-clause-follows : goal.returns-in-Ok-clause-follows
@@ -11,7 +11,7 @@ returns-in-Ok-clause-follows g c = record {
       rw (step_begun cluster me facts volatile c.args.transaction.now c.in-Ok.tx (c.in-Ok.ensures.answer me (epoch_of facts) cluster.quorums facts volatile.manager stands.store stands.manager)) here;
   left = λ cluster me facts volatile stands.
       rw (step_begun cluster me facts volatile c.args.transaction.now c.in-Ok.tx (c.in-Ok.ensures.answer me (epoch_of facts) cluster.quorums facts volatile.manager stands.store stands.manager))
-      (left_always (written c.begun.result c.begun.new.step) _ (record {
+      (left_always (unless_refused c.begun.result c.begun.new.step) _ (record {
         of = stands.of;
         at = stands.at;
         among = stands.among;
@@ -20,7 +20,7 @@ returns-in-Ok-clause-follows g c = record {
         leader = stands.leader;
         recovery = stands.recovery;
       }));
-  memory = λ facts store. memory_always (written c.begun.result c.begun.new.step) _ store;
+  memory = λ facts store. memory_always (unless_refused c.begun.result c.begun.new.step) _ store;
 }
 
 pub returns-in-Err-clause-follows : goal.returns-in-Err-clause-follows
@@ -39,5 +39,5 @@ returns-in-Err-clause-follows g c = record {
         leader = stands.leader;
         recovery = stands.recovery;
       }));
-  memory = λ facts store. memory_always (written c.refused.result c.refused.new.step) _ store;
+  memory = λ facts store. memory_always (unless_refused c.refused.result c.refused.new.step) _ store;
 }

@@ -1,4 +1,4 @@
-use Rattle.mdcc_protocol.specs.Facts.{epoch_of}
+use Rattle.mdcc_def_protocol.specs.Facts.{epoch_of}
 use Rattle.mdcc_node.proofs.node.Node.close.Goals as goal
 
 pub returns-clause-closed : goal.returns-clause-closed

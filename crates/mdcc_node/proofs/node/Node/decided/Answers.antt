@@ -1,7 +1,7 @@
 use Rattle.std.proofs.Common.{◌≡◌, None, Some, refl}
-use Rattle.mdcc_protocol.specs.Facts.{epoch_of}
-use Rattle.mdcc_protocol.specs.Manager.{would_decide}
-use Rattle.mdcc_protocol.specs.Volatile.{initial_volatile}
+use Rattle.mdcc_def_protocol.specs.Facts.{epoch_of}
+use Rattle.mdcc_def_protocol.specs.Manager.{would_decide}
+use Rattle.mdcc_def_protocol.specs.Volatile.{initial_volatile}
 use Rattle.mdcc_node.proofs.Ending.{heard-follows}
 use Rattle.mdcc_node.proofs.Ends.{none-is-no-end}
 use Rattle.mdcc_node.proofs.node.Node.decided.Goals as goal

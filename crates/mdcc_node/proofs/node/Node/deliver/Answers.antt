@@ -1,7 +1,7 @@
 use Rattle.std.proofs.Common.{◌≡◌, None, Some, if◌then◌else◌, refl}
 use Rattle.mdcc_node.proofs.Standing.{foreign_step, own_step}
 use Rattle.mdcc_node.specs.StepAnswers.{room_of}
-use Rattle.mdcc_rules.specs.Node.{is_own_message}
+use Rattle.mdcc_def_rules.specs.Node.{is_own_message}
 use Rattle.mdcc_node.proofs.node.Node.deliver.Goals as goal
 
 pub returns-in-Some-clause-follows : goal.returns-in-Some-clause-follows

@@ -1,9 +1,9 @@
 use Rattle.std.proofs.Common.{◌≡◌, Ok, refl}
-use Rattle.mdcc_leader.specs.Answers.{answered}
+use Rattle.mdcc_leader.specs.Answers.{answer_alone}
 use Rattle.mdcc_node.proofs.Led.{tick-keeps, tick-left, tick-refused, tick-sends}
 use Rattle.mdcc_node.specs.Represents.{RepresentsCentre}
-use Rattle.mdcc_protocol.specs.Facts.{epoch_of}
-use Rattle.mdcc_protocol.specs.Leader.{lead}
+use Rattle.mdcc_def_protocol.specs.Facts.{epoch_of}
+use Rattle.mdcc_def_protocol.specs.Leader.{lead}
 use Rattle.mdcc_node.proofs.node.Node.lead_or_leave.Goals as goal
 
 pub returns-in_ok-send_lead-in-Ok : goal.returns-in_ok-send_lead-in-Ok
@@ -12,7 +12,7 @@ returns-in_ok-send_lead-in-Ok g c =
     record {
       answer = λ cluster me facts volatile known.
           let led = lead cluster me (epoch_of facts) facts volatile.leader claim in
-          let is : Ok c.in-Ok.answer ≡ answered led =
+          let is : Ok c.in-Ok.answer ≡ answer_alone led =
           rw known.of at (c.in-Ok.ensures.answer me (epoch_of facts) facts volatile.leader known.store (rw known.of known.leader)) in
           rw (tick-sends cluster.quorums me volatile claim led c.in-Ok.answer is, c.in_ok-send_lead-in-Ok.ensures, c.number-centre.ensures.value, known.of, known.at) refl;
       left = λ cluster me facts volatile known.

@@ -1,5 +1,5 @@
 use Rattle.std.proofs.Common.{sym}
-use Rattle.mdcc_protocol.specs.Facts.{epoch_of}
+use Rattle.mdcc_def_protocol.specs.Facts.{epoch_of}
 use Rattle.mdcc_node.proofs.Ends.{no-end-is-none}
 use Rattle.mdcc_node.proofs.node.Node.opened.Goals as goal
 

@@ -1,5 +1,5 @@
-use Rattle.mdcc_protocol.specs.Volatile.{initial_volatile}
-use Rattle.mdcc_rules.specs.AcceptorRules.{prepare_step}
+use Rattle.mdcc_def_protocol.specs.Volatile.{initial_volatile}
+use Rattle.mdcc_def_rules.specs.AcceptorRules.{prepare_step}
 use Rattle.mdcc_node.proofs.Ending.{follows-planned, prepare-adds}
 use Rattle.mdcc_node.proofs.node.Node.prepare.Goals as goal
 

@@ -1,8 +1,8 @@
-use Rattle.mdcc_protocol.specs.Volatile.{initial_volatile}
-use Rattle.mdcc_rules.specs.AcceptorRules.{propose_step}
+use Rattle.mdcc_def_protocol.specs.Volatile.{initial_volatile}
+use Rattle.mdcc_def_rules.specs.AcceptorRules.{propose_step}
 use Rattle.mdcc_node.proofs.Ending.{follows-planned, propose-adds}
 use Rattle.mdcc_node.proofs.node.Node.propose.Goals as goal
-use Rattle.mdcc_rules.specs.Here.{here}
+use Rattle.mdcc_def_rules.specs.Here.{here}
 
 pub returns-clause-fact : goal.returns-clause-fact
 returns-clause-fact g c = λ facts store.

@@ -1,19 +1,19 @@
 use Rattle.std.proofs.Common.{◌≡◌, List, subst, true}
 use Rattle.mdcc_base.specs.Unless.{GivesUnless}
-use Rattle.mdcc_messages.specs.declared.facts.Fact.{Fact}
+use Rattle.mdcc_def_messages.specs.declared.facts.Fact.{Fact}
 use Rattle.mdcc_node.proofs.Ending.{ends}
 use Rattle.mdcc_node.proofs.Led.{residual}
 use Rattle.mdcc_node.proofs.Planned.{fault-given, fault-left, memory-left, plan-fits, plan-given, plan-left}
 use Rattle.mdcc_node.proofs.Standing.{memory_always}
 use Rattle.mdcc_node.specs.MethodEffects.{Spends}
-use Rattle.mdcc_node.specs.StepPlans.{kept, written}
+use Rattle.mdcc_node.specs.StepPlans.{unless_refused, volatile_kept}
 use Rattle.mdcc_node.specs.StepAnswers.{is_step_memory, room_of, if_plan_added}
 use Rattle.mdcc_option.specs.declared.cluster.Cluster.{Cluster}
-use Rattle.mdcc_protocol.specs.Belongs.{is_centre}
-use Rattle.mdcc_rules.specs.Node.{message_step}
-use Rattle.mdcc_steps.proofs.Shortness.{brought-fits}
+use Rattle.mdcc_def_protocol.specs.Belongs.{is_centre}
+use Rattle.mdcc_def_rules.specs.Node.{message_step}
+use Rattle.mdcc_theorem_node_steps.proofs.Shortness.{brought-fits}
 use Rattle.mdcc_node.proofs.node.Node.receive.Goals as goal
-use Rattle.mdcc_rules.specs.Here.{here}
+use Rattle.mdcc_def_rules.specs.Here.{here}
 
 pub add_planned-requires-clause-fits : goal.add_planned-requires-clause-fits
 add_planned-requires-clause-fits g c =
@@ -33,8 +33,8 @@ returns-clause-does g c =
     let plan = c.take.new.step in
     let same : mid.store ≡ c.args.self.now.store = c.in_ok-take.ensures.plan.store in
     let given : (facts : List Fact) → stands c.args.self.now.store facts
-    → GivesUnless is_step_memory (written c.add_planned.result c.add_planned.new.step) (if_plan_added room facts plan plan.fact) =
-    λ facts store. subst (λ (held : g.row.S.Denot). GivesUnless is_step_memory (written c.add_planned.result c.add_planned.new.step) (if_plan_added (room_of g.S.FactStore.room g.S.FactStore.cells_for held) facts plan plan.fact)) same
+    → GivesUnless is_step_memory (unless_refused c.add_planned.result c.add_planned.new.step) (if_plan_added room facts plan plan.fact) =
+    λ facts store. subst (λ (held : g.row.S.Denot). GivesUnless is_step_memory (unless_refused c.add_planned.result c.add_planned.new.step) (if_plan_added (room_of g.S.FactStore.room g.S.FactStore.cells_for held) facts plan plan.fact)) same
     (c.add_planned.ensures.answer facts (rw same store)) in
     record {
       answer = λ cluster me facts volatile known.
@@ -47,15 +47,15 @@ returns-clause-does g c =
           (c.in_ok-take.ensures.plan.answer cluster me facts volatile known)
           (ends volatile cluster me facts c.args.from c.args.message.now)
           (given facts known.store)
-          (c.add_planned.ensures.ok cluster me facts (kept volatile expected) now)
-          (c.add_planned.ensures.err cluster me facts (kept volatile expected) now);
+          (c.add_planned.ensures.ok cluster me facts (volatile_kept volatile expected) now)
+          (c.add_planned.ensures.err cluster me facts (volatile_kept volatile expected) now);
       memory = λ facts store.
           memory-left c.add_planned.result c.add_planned.new.step (stands c.add_planned.new.self.store facts) (c.add_planned.ensures.left facts (rw same store));
     }
 
 pub returns-clause-spent : goal.returns-clause-spent
 returns-clause-spent g c =
-    subst (λ (held : g.row.S.Denot). Spends g.S.FactStore.room g.S.FactStore.cells_for held (written c.add_planned.result c.add_planned.new.step) c.add_planned.new.self.store)
+    subst (λ (held : g.row.S.Denot). Spends g.S.FactStore.room g.S.FactStore.cells_for held (unless_refused c.add_planned.result c.add_planned.new.step) c.add_planned.new.self.store)
     c.in_ok-take.ensures.plan.store c.add_planned.ensures.spent
 
 pub returns-in_err-take-clause-does : goal.returns-in_err-take-clause-does
@@ -70,5 +70,5 @@ returns-in_err-take-clause-does g c =
       left = λ cluster me facts volatile known.
           rw same (fault-left stands c.take.new.self cluster me facts volatile room fault (message_step (here cluster me facts) volatile c.args.from c.args.message.now)
           (c.in_err-take.ensures.plan.answer cluster me facts volatile known) (c.in_err-take.ensures.plan.left cluster me facts volatile known));
-      memory = λ facts store. memory_always (written c.from_residual.result _) _ (rw c.in_err-take.ensures.plan.store store);
+      memory = λ facts store. memory_always (unless_refused c.from_residual.result _) _ (rw c.in_err-take.ensures.plan.store store);
     }

@@ -1,9 +1,9 @@
 use Rattle.std.proofs.Common.{refl}
 use Rattle.mdcc_node.proofs.Ending.{lead-alone}
 use Rattle.mdcc_node.proofs.Planned.{sends-plan, unless-any}
-use Rattle.mdcc_rules.specs.LeaderRules.{lead_step}
+use Rattle.mdcc_def_rules.specs.LeaderRules.{lead_step}
 use Rattle.mdcc_node.proofs.node.Node.take_led.Goals as goal
-use Rattle.mdcc_rules.specs.Here.{here}
+use Rattle.mdcc_def_rules.specs.Here.{here}
 
 pub returns-in-Refused-clause-plan : goal.returns-in-Refused-clause-plan
 returns-in-Refused-clause-plan g c = record {

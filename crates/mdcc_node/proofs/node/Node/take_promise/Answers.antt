@@ -1,10 +1,10 @@
 use Rattle.std.proofs.Common.{◌≡◌, Ok, refl}
-use Rattle.mdcc_leader.specs.Answers.{answered}
+use Rattle.mdcc_leader.specs.Answers.{answer_alone}
 use Rattle.mdcc_node.proofs.Led.{promise-left, promised-keeps, promised-refused, promised-sends, residual}
 use Rattle.mdcc_node.specs.Represents.{RepresentsCentre}
-use Rattle.mdcc_protocol.specs.Facts.{epoch_of}
-use Rattle.mdcc_protocol.specs.Leader.{on_promise}
-use Rattle.mdcc_rules.specs.LeaderRules.{lead_step_fault}
+use Rattle.mdcc_def_protocol.specs.Facts.{epoch_of}
+use Rattle.mdcc_def_protocol.specs.Leader.{on_promise}
+use Rattle.mdcc_def_rules.specs.LeaderRules.{lead_step_fault}
 use Rattle.mdcc_node.proofs.node.Node.take_promise.Goals as goal
 
 pub returns-in_err-answer : goal.returns-in_err-answer
@@ -39,7 +39,7 @@ returns g c =
     record {
       answer = λ cluster me facts volatile known.
           let led = on_promise cluster facts volatile.leader c.args.from promise in
-          let is : Ok c.in_ok-answer.answer ≡ answered led =
+          let is : Ok c.in_ok-answer.answer ≡ answer_alone led =
           rw known.of at (c.in_ok-answer.ensures.answer me (epoch_of facts) facts volatile.leader known.store (rw known.of known.leader)) in
           rw (promised-sends cluster.quorums me volatile promise.key led c.in_ok-answer.answer c.args.sends.now is, c.in_ok-send_promised.ensures, c.number-centre.ensures.value, known.of, known.at) refl;
       left = λ cluster me facts volatile known.

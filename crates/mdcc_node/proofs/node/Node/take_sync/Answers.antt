@@ -1,5 +1,5 @@
 use Rattle.std.proofs.Common.{refl}
-use Rattle.mdcc_protocol.specs.declared.visible.Give.{Give}
+use Rattle.mdcc_def_protocol.specs.declared.visible.Give.{Give}
 use Rattle.mdcc_node.proofs.Ending.{adopted-adds, asked-adds}
 use Rattle.mdcc_node.proofs.node.Node.take_sync.Goals as goal
 

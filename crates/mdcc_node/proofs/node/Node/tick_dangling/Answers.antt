@@ -1,17 +1,17 @@
 use Rattle.std.proofs.Common.{◌≡◌, List, Ok, Result, ◌++◌, ◌∙◌, [], append_assoc, append-nil, arith, refl}
 use Rattle.std.proofs.lemmas.List.{drop_all}
-use Rattle.mdcc_messages.specs.declared.messages.Envelope.{Envelope}
-use Rattle.mdcc_rules.specs.declared.node.StepFault.{StepFault}
+use Rattle.mdcc_def_messages.specs.declared.messages.Envelope.{Envelope}
+use Rattle.mdcc_def_rules.specs.declared.node.StepFault.{StepFault}
 use Rattle.mdcc_node.proofs.Ending.{fold-next}
 use Rattle.mdcc_node.proofs.Led.{residual}
 use Rattle.mdcc_node.proofs.Planned.{only-memory, only-memory-left}
-use Rattle.mdcc_protocol.specs.Facts.{epoch_of}
-use Rattle.mdcc_protocol.specs.Recover.{tick}
-use Rattle.mdcc_protocol.specs.Volatile.{txs_opened, with_recovery}
-use Rattle.mdcc_rules.specs.Steps.{and_then, only_sending}
-use Rattle.mdcc_rules.specs.TickRules.{recovery_act, recovery_ticked}
+use Rattle.mdcc_def_protocol.specs.Facts.{epoch_of}
+use Rattle.mdcc_def_protocol.specs.Recover.{tick}
+use Rattle.mdcc_def_protocol.specs.Volatile.{txs_opened, with_recovery}
+use Rattle.mdcc_def_rules.specs.Steps.{only_sending, part_and_then}
+use Rattle.mdcc_def_rules.specs.TickRules.{recovery_act, recovery_ticked}
 use Rattle.mdcc_node.proofs.node.Node.tick_dangling.Goals as goal
-use Rattle.mdcc_rules.specs.Here.{here}
+use Rattle.mdcc_def_rules.specs.Here.{here}
 
 -- what a call that does not fail gives
 abbrev given_sends : List Envelope → Result (List Envelope) StepFault
@@ -61,10 +61,10 @@ loop-act-preserved g c = record {
       let acted = recovery_act (here cluster me facts) part.after c.act-item.result in
       let given : given_sends c.recover_by.new.sends ≡ given_sends (c.loop-act.sends ++ acted.sends) = c.in_ok-recover_by.ensures.answer cluster me facts part.after so.2 in
       let now : c.recover_by.new.sends ≡ c.loop-act.sends ++ acted.sends = cc in (
-        and_then (recovery_act (here cluster me facts)) part c.act-item.result,
+        part_and_then (recovery_act (here cluster me facts)) part c.act-item.result,
         rw (now, so.1, append_assoc) refl,
         c.in_ok-recover_by.ensures.left cluster me facts part.after so.2,
-        fold-next (and_then (recovery_act (here cluster me facts))) c.deref-act-items.result.now c.loop-act.act-index c.act-item.result part
+        fold-next (part_and_then (recovery_act (here cluster me facts))) c.deref-act-items.result.now c.loop-act.act-index c.act-item.result part
             (recovery_ticked (here cluster me facts) (only_sending volatile [])) (omega (arith, c.loop-act-test.true)) c.act-item.is so.3,
       );
 }

@@ -1,12 +1,12 @@
 use Rattle.std.proofs.Common.{◌≡◌, ◌++◌, [], List, ℕ, drop, fold}
-use Rattle.mdcc_messages.specs.declared.facts.Fact.{Fact}
+use Rattle.mdcc_def_messages.specs.declared.facts.Fact.{Fact}
 use Rattle.mdcc_node.specs.Represents.{RepresentsCentre}
 use Rattle.mdcc_option.specs.declared.cluster.Cluster.{Cluster}
-use Rattle.mdcc_protocol.specs.Volatile.{Volatile}
-use Rattle.mdcc_rules.specs.Steps.{StepPart, and_then, only_sending}
-use Rattle.mdcc_rules.specs.TickRules.{recovery_act, recovery_ticked}
+use Rattle.mdcc_def_protocol.specs.Volatile.{Volatile}
+use Rattle.mdcc_def_rules.specs.Steps.{StepPart, only_sending, part_and_then}
+use Rattle.mdcc_def_rules.specs.TickRules.{recovery_act, recovery_ticked}
 use Rattle.mdcc_node.proofs.node.Node.tick_dangling.Given as goal
-use Rattle.mdcc_rules.specs.Here.{here}
+use Rattle.mdcc_def_rules.specs.Here.{here}
 
 abbrev pub invariant-loop-act : goal.invariant-loop-act
 invariant-loop-act g l = record {
@@ -15,5 +15,5 @@ invariant-loop-act g l = record {
       → (part : StepPart)
       × (l.sends ≡ l.fn.sends ++ part.sends)
       × RepresentsCentre g.S.FactStore.stands l.self cluster me facts part.after
-      × (fold (and_then (recovery_act (here cluster me facts))) part (drop l.act-index l.act-items) ≡ recovery_ticked (here cluster me facts) (only_sending volatile []));
+      × (fold (part_and_then (recovery_act (here cluster me facts))) part (drop l.act-index l.act-items) ≡ recovery_ticked (here cluster me facts) (only_sending volatile []));
 }

@@ -1,17 +1,17 @@
 use Rattle.std.proofs.Common.{◌≡◌, List, Ok, Result, ◌++◌, ◌∙◌, [], append_assoc, append-nil, arith, refl}
 use Rattle.std.proofs.lemmas.List.{drop_all}
-use Rattle.mdcc_messages.specs.declared.messages.Envelope.{Envelope}
-use Rattle.mdcc_rules.specs.declared.node.StepFault.{StepFault}
+use Rattle.mdcc_def_messages.specs.declared.messages.Envelope.{Envelope}
+use Rattle.mdcc_def_rules.specs.declared.node.StepFault.{StepFault}
 use Rattle.mdcc_node.proofs.Ending.{fold-next}
 use Rattle.mdcc_node.proofs.Led.{residual}
 use Rattle.mdcc_node.proofs.Planned.{only-memory, only-memory-left}
-use Rattle.mdcc_protocol.specs.Facts.{epoch_of}
-use Rattle.mdcc_protocol.specs.Manager.{tick}
-use Rattle.mdcc_protocol.specs.Volatile.{with_manager}
-use Rattle.mdcc_rules.specs.Steps.{and_then, only_sending}
-use Rattle.mdcc_rules.specs.TickRules.{manager_act, manager_ticked}
+use Rattle.mdcc_def_protocol.specs.Facts.{epoch_of}
+use Rattle.mdcc_def_protocol.specs.Manager.{tick}
+use Rattle.mdcc_def_protocol.specs.Volatile.{with_manager}
+use Rattle.mdcc_def_rules.specs.Steps.{only_sending, part_and_then}
+use Rattle.mdcc_def_rules.specs.TickRules.{manager_act, manager_ticked}
 use Rattle.mdcc_node.proofs.node.Node.tick_opened.Goals as goal
-use Rattle.mdcc_rules.specs.Here.{here}
+use Rattle.mdcc_def_rules.specs.Here.{here}
 
 -- what a call that does not fail gives
 abbrev given_sends : List Envelope → Result (List Envelope) StepFault
@@ -59,10 +59,10 @@ loop-act-preserved g c = record {
       let acted = manager_act (here cluster me facts) part.after c.act-item.result in
       let given : given_sends c.act.new.sends ≡ given_sends (c.loop-act.sends ++ acted.sends) = c.in_ok-act.ensures.answer cluster me facts part.after so.2 in
       let now : c.act.new.sends ≡ c.loop-act.sends ++ acted.sends = cc in (
-        and_then (manager_act (here cluster me facts)) part c.act-item.result,
+        part_and_then (manager_act (here cluster me facts)) part c.act-item.result,
         rw (now, so.1, append_assoc) refl,
         c.in_ok-act.ensures.left cluster me facts part.after so.2,
-        fold-next (and_then (manager_act (here cluster me facts))) c.deref-act-items.result.now c.loop-act.act-index c.act-item.result part
+        fold-next (part_and_then (manager_act (here cluster me facts))) c.deref-act-items.result.now c.loop-act.act-index c.act-item.result part
             (manager_ticked (here cluster me facts) volatile) (omega (arith, c.loop-act-test.true)) c.act-item.is so.3,
       );
 }

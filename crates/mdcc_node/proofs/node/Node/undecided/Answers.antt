@@ -1,6 +1,6 @@
 use Rattle.std.proofs.Common.{◌≡◌, refl}
-use Rattle.mdcc_protocol.specs.Facts.{epoch_of}
-use Rattle.mdcc_protocol.specs.Manager.{on_voted}
+use Rattle.mdcc_def_protocol.specs.Facts.{epoch_of}
+use Rattle.mdcc_def_protocol.specs.Manager.{on_voted}
 use Rattle.mdcc_node.proofs.node.Node.undecided.Goals as goal
 
 pub returns : goal.returns

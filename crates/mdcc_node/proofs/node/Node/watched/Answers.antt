@@ -1,6 +1,6 @@
 use Rattle.std.proofs.Common.{◌≡◌, Some, refl}
-use Rattle.mdcc_protocol.specs.Recover.{would_decide}
-use Rattle.mdcc_protocol.specs.Volatile.{initial_volatile}
+use Rattle.mdcc_def_protocol.specs.Recover.{would_decide}
+use Rattle.mdcc_def_protocol.specs.Volatile.{initial_volatile}
 use Rattle.mdcc_node.proofs.Ending.{decided-tx, heard-follows}
 use Rattle.mdcc_node.proofs.node.Node.watched.Goals as goal
 

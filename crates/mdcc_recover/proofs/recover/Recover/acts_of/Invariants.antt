@@ -1,9 +1,9 @@
 use Rattle.std.proofs.Common.{◌≡◌, ◌++◌, List, drop}
 use Rattle.std.specs.Prelude.{flat_map}
 use Rattle.mdcc_base.specs.Sizes.{Sizes}
-use Rattle.mdcc_messages.specs.declared.facts.Fact.{Fact}
-use Rattle.mdcc_protocol.specs.Recover.{acts_on}
-use Rattle.mdcc_protocol.specs.Volatile.{Recovering}
+use Rattle.mdcc_def_messages.specs.declared.facts.Fact.{Fact}
+use Rattle.mdcc_def_protocol.specs.Recover.{acts_on}
+use Rattle.mdcc_def_protocol.specs.Volatile.{Recovering}
 use Rattle.mdcc_recover.specs.Represents.{RepresentsRecovering}
 use Rattle.mdcc_recover.proofs.recover.Recover.acts_of.Given as goal
 

@@ -1,8 +1,8 @@
 use Rattle.std.proofs.Common.{◌≡◌, ◌++◌, List, drop}
 use Rattle.mdcc_base.specs.Sizes.{Sizes}
-use Rattle.mdcc_messages.specs.declared.facts.Fact.{Fact}
-use Rattle.mdcc_protocol.specs.Recover.{keys_led}
-use Rattle.mdcc_protocol.specs.Volatile.{Recovering}
+use Rattle.mdcc_def_messages.specs.declared.facts.Fact.{Fact}
+use Rattle.mdcc_def_protocol.specs.Recover.{keys_led}
+use Rattle.mdcc_def_protocol.specs.Volatile.{Recovering}
 use Rattle.mdcc_recover.specs.Represents.{RepresentsRecovering}
 use Rattle.mdcc_recover.proofs.recover.Recover.lead_each.Given as goal
 

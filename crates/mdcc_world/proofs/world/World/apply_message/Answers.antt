@@ -1,5 +1,5 @@
-use Rattle.mdcc_rules.specs.declared.node.Input.{Input}
-use Rattle.mdcc_worlds.specs.DeliveryProgress.{message_counted}
+use Rattle.mdcc_def_rules.specs.declared.node.Input.{Input}
+use Rattle.mdcc_theorem_worlds.specs.DeliveryProgress.{message_counted}
 use Rattle.mdcc_world.proofs.world.World.apply_message.Goals as goal
 
 pub apply_run-requires : goal.apply_run-requires

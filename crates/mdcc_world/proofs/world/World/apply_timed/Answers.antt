@@ -1,7 +1,7 @@
 use Rattle.std.proofs.Common.{◌∷◌, ◌∙◌, [], Ok, List, ap, subst}
-use Rattle.mdcc_simulation.specs.Limits.{input_limited, with_lines}
-use Rattle.mdcc_simulation.specs.AppliedSteps.{step_at}
-use Rattle.mdcc_language.specs.declared.lines.Line.{Line}
+use Rattle.mdcc_def_simulation.specs.Limits.{input_limited, with_lines}
+use Rattle.mdcc_def_simulation.specs.AppliedSteps.{step_at}
+use Rattle.mdcc_def_language.specs.declared.lines.Line.{Line}
 use Rattle.mdcc_world.proofs.Happened.{memory-is-free, next-is, residual, reported-happens, reported-refused, reported-result}
 use Rattle.mdcc_world.specs.Represents.{Happens}
 use Rattle.mdcc_world.specs.Timed.{timed_line, timed_lines}

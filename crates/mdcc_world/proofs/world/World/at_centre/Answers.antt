@@ -1,5 +1,5 @@
 use Rattle.std.proofs.Common.{◌≡◌, sym, true}
-use Rattle.mdcc_simulation.specs.State.{is_up_at}
+use Rattle.mdcc_def_simulation.specs.State.{is_up_at}
 use Rattle.mdcc_world.proofs.world.World.at_centre.Goals as goal
 
 pub returns-clause-centre : goal.returns-clause-centre

@@ -1,4 +1,4 @@
-use Rattle.mdcc_simulation.specs.Limits.{passed_bytes_limit, passed_log_limit}
+use Rattle.mdcc_def_simulation.specs.Limits.{passed_bytes_limit, passed_log_limit}
 use Rattle.mdcc_world.proofs.Happened.{residual}
 use Rattle.mdcc_world.proofs.Limits.{limit-first, limit-then}
 use Rattle.mdcc_world.proofs.world.World.at_limits.Goals.{in-Some+in_ok-at_log_limit, in_default}

@@ -1,9 +1,9 @@
 use Rattle.std.proofs.Common.{false, refl, true}
 use Rattle.mdcc_world.proofs.Counted.{up-centre}
 use Rattle.mdcc_world.proofs.Limits.{log-full, log-room}
-use Rattle.mdcc_worlds.proofs.Stays.{some-centre}
-use Rattle.mdcc_ledger.specs.Ledger.{facts_of}
-use Rattle.mdcc_simulation.specs.State.{is_up_at}
+use Rattle.mdcc_theorem_worlds.proofs.Stays.{some-centre}
+use Rattle.mdcc_def_ledger.specs.Ledger.{facts_of}
+use Rattle.mdcc_def_simulation.specs.State.{is_up_at}
 use Rattle.mdcc_world.proofs.world.World.at_log_limit.Goals as goal
 
 pub returns-then-is_full-clause-limit : goal.returns-then-is_full-clause-limit

@@ -1,8 +1,8 @@
 use Rattle.std.proofs.Common.{◌≡◌, ◌≤◌, arith, false, nat_le, subst, sym, true}
 use Rattle.std.proofs.lemmas.Bool.{and_from, le-leb}
 use Rattle.mdcc_option.specs.declared.cluster.Cluster.{Cluster}
-use Rattle.mdcc_protocol.specs.Belongs.{is_centre}
-use Rattle.mdcc_simulation.specs.State.{is_up_at}
+use Rattle.mdcc_def_protocol.specs.Belongs.{is_centre}
+use Rattle.mdcc_def_simulation.specs.State.{is_up_at}
 use Rattle.mdcc_world.proofs.world.World.at_restart.Goals as goal
 
 pub returns-clause-centre : goal.returns-clause-centre

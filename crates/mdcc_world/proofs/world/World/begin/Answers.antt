@@ -2,11 +2,11 @@ use Rattle.std.proofs.Common.{◌≡◌, Ok, List, Option, Result, true, sym, ap
 use Rattle.mdcc_base.specs.Unless.{GivesUnless}
 use Rattle.mdcc_option.specs.declared.items.Known.{Known}
 use Rattle.mdcc_option.specs.declared.items.Part.{Part}
-use Rattle.mdcc_language.specs.Resolve.{resolve}
-use Rattle.mdcc_language.specs.declared.schedule.ResolveFault.{ResolveFault}
+use Rattle.mdcc_def_language.specs.Resolve.{resolve}
+use Rattle.mdcc_def_language.specs.declared.schedule.ResolveFault.{ResolveFault}
 use Rattle.mdcc_sched.specs.Free.{is_resolve_memory}
 use Rattle.mdcc_world.proofs.BeginSaid.{begin-as, formed-parts, gives-ok, unresolved-as}
-use Rattle.mdcc_simulation.specs.State.{is_up_at}
+use Rattle.mdcc_def_simulation.specs.State.{is_up_at}
 use Rattle.mdcc_world.proofs.world.World.begin.Goals as goal
 
 pub begin_parts-requires-clause-formed : goal.begin_parts-requires-clause-formed

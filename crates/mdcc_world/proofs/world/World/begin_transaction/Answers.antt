@@ -1,9 +1,9 @@
 use Rattle.std.proofs.Common.{refl}
-use Rattle.mdcc_simulation.specs.State.{counted_event}
-use Rattle.mdcc_rules.specs.declared.node.Input.{Input}
+use Rattle.mdcc_def_simulation.specs.State.{counted_event}
+use Rattle.mdcc_def_rules.specs.declared.node.Input.{Input}
 use Rattle.mdcc_world.proofs.Happened.{free-refusal, opened, refused-is, residual}
-use Rattle.mdcc_worlds.specs.BeginEffects.{after_begin_parts}
-use Rattle.mdcc_worlds.specs.EventEffects.{at_limit, if_open}
+use Rattle.mdcc_theorem_worlds.specs.BeginEffects.{after_begin_parts}
+use Rattle.mdcc_theorem_worlds.specs.EventEffects.{at_limit, if_open}
 use Rattle.mdcc_world.proofs.world.World.begin_transaction.Goals as goal
 
 pub returns-in_err-at_limit-clause-happens : goal.returns-in_err-at_limit-clause-happens

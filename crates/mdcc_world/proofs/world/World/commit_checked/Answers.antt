@@ -1,13 +1,13 @@
 use Rattle.std.proofs.Common.{◌+◌, ◌++◌, List, ap, ◌∙◌, map}
-use Rattle.mdcc_ledger.specs.Ledger.{facts_of}
-use Rattle.mdcc_messages.specs.Lengths.{messages_length}
-use Rattle.mdcc_messages.specs.Mailbox.{unsent}
-use Rattle.mdcc_messages.specs.declared.messages.Envelope.{Envelope}
+use Rattle.mdcc_def_ledger.specs.Ledger.{facts_of}
+use Rattle.mdcc_def_messages.specs.Lengths.{messages_length}
+use Rattle.mdcc_def_messages.specs.Mailbox.{unsent}
+use Rattle.mdcc_def_messages.specs.declared.messages.Envelope.{Envelope}
 use Rattle.mdcc_world.proofs.Happened.{may_be, residual, unlimited}
 use Rattle.mdcc_world.proofs.Limits.{fact-is-formed, fact-is-framed, log-there, step-measures}
 use Rattle.mdcc_world.proofs.Took.{step-refused, step-taken}
-use Rattle.mdcc_simulation.specs.State.{is_up_at}
-use Rattle.mdcc_worlds.specs.StepEffects.{limit_passed}
+use Rattle.mdcc_def_simulation.specs.State.{is_up_at}
+use Rattle.mdcc_theorem_worlds.specs.StepEffects.{limit_passed}
 use Rattle.mdcc_world.proofs.world.World.commit_checked.Goals as goal
 
 pub at_limits-requires-clause-within : goal.at_limits-requires-clause-within

@@ -1,11 +1,11 @@
 use Rattle.std.proofs.Common.{◌+◌, ◌-◌, ◌∙◌, Bool, List, Option, ap, arith, false, subst, ℕ}
 use Rattle.std.specs.Prelude.{set}
 use Rattle.mdcc_base.specs.declared.outside.Image.{Image}
-use Rattle.mdcc_logs.specs.Represents.{LogsRepresent}
-use Rattle.mdcc_logs.specs.Tails.{HasTail, tail_at}
+use Rattle.mdcc_world_logs.specs.Represents.{LogsRepresent}
+use Rattle.mdcc_world_logs.specs.Tails.{HasTail, tail_at}
 use Rattle.mdcc_world.specs.declared.world.World.{World as TheWorld}
-use Rattle.mdcc_ledger.specs.Ledger.{facts_of}
-use Rattle.mdcc_simulation.specs.State.{is_up_at}
+use Rattle.mdcc_def_ledger.specs.Ledger.{facts_of}
+use Rattle.mdcc_def_simulation.specs.State.{is_up_at}
 use Rattle.mdcc_world.proofs.Counted.{up-centre}
 use Rattle.mdcc_world.proofs.Crashed.{has-crashed}
 use Rattle.mdcc_world.proofs.Limits.{log-there}

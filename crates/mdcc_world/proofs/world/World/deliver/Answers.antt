@@ -1,6 +1,6 @@
 use Rattle.std.proofs.Common.{◌≡◌, ◌+◌, ◌∷◌, ◌<◌, Err, arith, drop, get_or, length}
 use Rattle.std.proofs.lemmas.List.{drop_more}
-use Rattle.mdcc_simulation.specs.Deliveries.{after_delivery}
+use Rattle.mdcc_def_simulation.specs.Deliveries.{after_delivery}
 use Rattle.mdcc_world.proofs.CutShort.{memory-always}
 use Rattle.mdcc_world.proofs.Delivering.{delivers-begin, delivers-cut, delivers-go_on, delivers-left, delivers-limited, delivers-refused}
 use Rattle.mdcc_world.proofs.Happened.{has-come, residual}

@@ -1,5 +1,5 @@
 use Rattle.std.proofs.Common.{◌≤◌, drop}
-use Rattle.mdcc_simulation.specs.State.{World}
+use Rattle.mdcc_def_simulation.specs.State.{World}
 use Rattle.mdcc_world.proofs.Delivering.{HasDelivered}
 use Rattle.mdcc_world.specs.Represents.{IsLike, IsLikeSome}
 use Rattle.mdcc_world.proofs.world.World.deliver.Given as goal

@@ -1,6 +1,6 @@
 use Rattle.mdcc_world.proofs.Happened.{opened, refused-is, residual}
-use Rattle.mdcc_worlds.proofs.Events.{delivery-is}
-use Rattle.mdcc_worlds.specs.DeliveryProgress.{at_message, delivery_reported}
+use Rattle.mdcc_theorem_worlds.proofs.Events.{delivery-is}
+use Rattle.mdcc_theorem_worlds.specs.DeliveryProgress.{at_message, delivery_reported}
 use Rattle.mdcc_world.proofs.world.World.deliver_at.Goals as goal
 
 pub returns-in_err-at_message-clause-happens : goal.returns-in_err-at_message-clause-happens

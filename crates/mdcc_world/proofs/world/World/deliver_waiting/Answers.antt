@@ -1,6 +1,6 @@
 use Rattle.std.proofs.Common.{Ok}
 use Rattle.mdcc_world.proofs.Gathered.{gathered}
-use Rattle.mdcc_worlds.specs.DeliveryProgress.{after_numbered_message}
+use Rattle.mdcc_theorem_worlds.specs.DeliveryProgress.{after_numbered_message}
 use Rattle.mdcc_world.proofs.world.World.deliver_waiting.Goals as goal
 
 pub returns-clause-happens : goal.returns-clause-happens

@@ -1,5 +1,5 @@
 use Rattle.std.proofs.Common.{◌≡◌, ap, ◌∙◌, length, List, refl}
-use Rattle.mdcc_messages.specs.Mailbox.{Sent}
+use Rattle.mdcc_def_messages.specs.Mailbox.{Sent}
 use Rattle.mdcc_world.proofs.Ended.{aborts-are, commits-are, undecided-are}
 use Rattle.mdcc_world.proofs.world.World.end.Goals as goal
 

@@ -2,7 +2,7 @@ use Rattle.std.proofs.Common.{[], ◌-◌, None, arith, refl, replicate}
 use Rattle.mdcc_world.proofs.Firsts.{first-logs, first-stops, first-tails, first-ups, none-armed}
 use Rattle.mdcc_world.proofs.NodesStay.{first-nodes}
 use Rattle.mdcc_world.proofs.Took.{first-counted, value-of}
-use Rattle.mdcc_worlds.proofs.Begins.{first-stands}
+use Rattle.mdcc_theorem_worlds.proofs.Begins.{first-stands}
 use Rattle.mdcc_world.proofs.world.World.new.Goals as goal
 
 pub returns : goal.returns

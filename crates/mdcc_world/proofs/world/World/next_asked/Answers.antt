@@ -1,6 +1,6 @@
 use Rattle.std.proofs.Common.{◌∙◌, List, ap, arith}
-use Rattle.mdcc_mail.specs.Waiting.{first_to}
-use Rattle.mdcc_messages.specs.Mailbox.{Sent}
+use Rattle.mdcc_world_mail.specs.Waiting.{first_to}
+use Rattle.mdcc_def_messages.specs.Mailbox.{Sent}
 use Rattle.mdcc_world.proofs.Settled.{clear-next, next-of}
 use Rattle.mdcc_world.specs.SettleEnd.{AreAsked}
 use Rattle.mdcc_world.proofs.world.World.next_asked.Goals as goal

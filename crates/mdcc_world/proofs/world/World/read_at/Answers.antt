@@ -2,10 +2,10 @@ use Rattle.std.proofs.Common.{◌≡◌, ◌++◌, ◌∷◌, [], Some, ap, arit
 use Rattle.std.proofs.lemmas.List.{with_items_is}
 use Rattle.std.specs.Vec.{with_items}
 use Rattle.mdcc_option.specs.declared.items.Known.{Known}
-use Rattle.mdcc_ledger.specs.Ledger.{facts_of}
-use Rattle.mdcc_protocol.specs.Visible
-use Rattle.mdcc_simulation.specs.Clients.{known_of_reading}
-use Rattle.mdcc_protocol.specs.declared.visible.Reading.{Reading}
+use Rattle.mdcc_def_ledger.specs.Ledger.{facts_of}
+use Rattle.mdcc_def_protocol.specs.Visible
+use Rattle.mdcc_def_simulation.specs.Clients.{known_of_reading}
+use Rattle.mdcc_def_protocol.specs.declared.visible.Reading.{Reading}
 use Rattle.mdcc_world.proofs.Counted.{has-read}
 use Rattle.mdcc_world.proofs.NodesStay.{runs-in}
 use Rattle.mdcc_world.specs.Nodes.{NodesRepresent, RunsAt}

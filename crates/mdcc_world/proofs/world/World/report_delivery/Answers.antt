@@ -1,10 +1,10 @@
 use Rattle.std.proofs.Common.{◌∷◌, [], Ok, List, refl, subst}
-use Rattle.mdcc_simulation.specs.Deliveries.{deliver_line}
-use Rattle.mdcc_simulation.specs.Limits.{with_lines}
-use Rattle.mdcc_language.specs.declared.lines.Line.{Line}
+use Rattle.mdcc_def_simulation.specs.Deliveries.{deliver_line}
+use Rattle.mdcc_def_simulation.specs.Limits.{with_lines}
+use Rattle.mdcc_def_language.specs.declared.lines.Line.{Line}
 use Rattle.mdcc_world.proofs.Happened.{next-is, reported-happens, reported-result}
 use Rattle.mdcc_world.specs.Represents.{Happens}
-use Rattle.mdcc_worlds.specs.DeliveryProgress.{after_numbered_message}
+use Rattle.mdcc_theorem_worlds.specs.DeliveryProgress.{after_numbered_message}
 use Rattle.mdcc_world.proofs.world.World.report_delivery.Goals as goal
 
 pub returns-clause-happens : goal.returns-clause-happens

@@ -1,6 +1,6 @@
 use Rattle.mdcc_world.proofs.Happened.{opened, refused-is, residual}
-use Rattle.mdcc_worlds.proofs.Events.{restart-is}
-use Rattle.mdcc_worlds.specs.EventEffects.{at_restart, restarted}
+use Rattle.mdcc_theorem_worlds.proofs.Events.{restart-is}
+use Rattle.mdcc_theorem_worlds.specs.EventEffects.{at_restart, restarted}
 use Rattle.mdcc_world.proofs.world.World.restart.Goals as goal
 
 pub returns-in_err-at_restart-clause-happens : goal.returns-in_err-at_restart-clause-happens

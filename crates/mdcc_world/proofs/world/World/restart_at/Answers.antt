@@ -1,21 +1,21 @@
 use Rattle.std.proofs.Common.{◌<◌, ◌≤◌, ◌+◌, ◌-◌, ◌∷◌, Bool, List, Ok, Option, true, ℕ, arith, ap, ◌∙◌, subst}
-use Rattle.mdcc_centre.specs.Nodes.{IsNodeOf}
-use Rattle.mdcc_logs.specs.Represents.{with_up}
-use Rattle.mdcc_logs.specs.Starting.{HasStarted, Starts}
-use Rattle.mdcc_logs.specs.Tails.{HasTail, StartsWithTail, tail_at}
-use Rattle.mdcc_logs.specs.declared.starting.Started.{Started}
+use Rattle.mdcc_node_log.specs.Nodes.{IsNodeOf}
+use Rattle.mdcc_world_logs.specs.Represents.{with_up}
+use Rattle.mdcc_world_logs.specs.Starting.{HasStarted, Starts}
+use Rattle.mdcc_world_logs.specs.Tails.{HasTail, StartsWithTail, tail_at}
+use Rattle.mdcc_world_logs.specs.declared.starting.Started.{Started}
 use Rattle.mdcc_option.specs.declared.cluster.Cluster.{Cluster}
-use Rattle.mdcc_messages.specs.Lengths.{cells_used}
+use Rattle.mdcc_def_messages.specs.Lengths.{cells_used}
 use Rattle.mdcc_base.specs.declared.outside.Image.{Image}
-use Rattle.mdcc_ledger.specs.Ledger.{facts_of}
-use Rattle.mdcc_simulation.specs.State.{is_up_at}
+use Rattle.mdcc_def_ledger.specs.Ledger.{facts_of}
+use Rattle.mdcc_def_simulation.specs.State.{is_up_at}
 use Rattle.std.specs.Prelude.{set}
-use Rattle.mdcc_protocol.specs.Volatile.{initial_volatile}
-use Rattle.mdcc_messages.specs.declared.facts.Fact.{Fact}
-use Rattle.mdcc_centre.specs.Logged.{AreLogged}
-use Rattle.mdcc_simulation.specs.Checkpoints.{tail_after}
+use Rattle.mdcc_def_protocol.specs.Volatile.{initial_volatile}
+use Rattle.mdcc_def_messages.specs.declared.facts.Fact.{Fact}
+use Rattle.mdcc_node_log.specs.Logged.{AreLogged}
+use Rattle.mdcc_def_simulation.specs.Checkpoints.{tail_after_append}
 use Rattle.mdcc_world.proofs.Crashed.{cells-within, has-restarted, may-restart, more-epochs, restart-cells, restart-limit}
-use Rattle.mdcc_worlds.proofs.Stays.{some-centre}
+use Rattle.mdcc_theorem_worlds.proofs.Stays.{some-centre}
 use Rattle.mdcc_world.proofs.world.World.restart_at.Goals as goal
 
 pub restart-requires-clause-among : goal.restart-requires-clause-among
@@ -45,7 +45,7 @@ returns-in_ok-push-in-Node-clause-happens c w like =
     subst (λ (s : Started). Starts (Ok s) c.restart.new.self world.cluster w.cluster.quorums.centres (with_up (is_up_at w) a true) a (facts_of w.ledger)) c.in-Node.is
     (c.in_ok-node.ensures.started w.cluster.quorums.centres (is_up_at w) (facts_of w.ledger) like.logs logged fits (more-epochs w a like.records.itself centre early)) in
     let node : IsNodeOf c.in-Node.node w.cluster a (Fact.Booted c.in-Node.epoch ∷ facts_of w.ledger a) initial_volatile = rw (← like.records.cluster) started.node_of in
-    let tail : HasTail world.logs c.restart.new.self a (tail_after (tail_at world.logs a)) =
+    let tail : HasTail world.logs c.restart.new.self a (tail_after_append (tail_at world.logs a)) =
     subst (λ (s : Started). StartsWithTail (Ok s) world.logs c.restart.new.self a) c.in-Node.is
     (c.in_ok-node.ensures.tail w.cluster.quorums.centres (is_up_at w) (facts_of w.ledger) like.logs logged fits (more-epochs w a like.records.itself centre early)) in
     let rest = c.rise.ensures.rest

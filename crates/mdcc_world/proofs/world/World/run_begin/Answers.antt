@@ -1,14 +1,14 @@
 use Rattle.std.proofs.Common.{◌≡◌, Ok, arith, length, refl}
 use Rattle.std.proofs.lemmas.List.{with_items_is}
 use Rattle.std.specs.Vec.{with_items}
-use Rattle.mdcc_simulation.specs.State.{counted_event}
-use Rattle.mdcc_simulation.specs.AppliedSteps.{input_happened, step_at}
-use Rattle.mdcc_rules.specs.declared.node.Input.{Input}
+use Rattle.mdcc_def_simulation.specs.State.{counted_event}
+use Rattle.mdcc_def_simulation.specs.AppliedSteps.{input_happened, step_at}
+use Rattle.mdcc_def_rules.specs.declared.node.Input.{Input}
 use Rattle.mdcc_world.proofs.BeginTaken.{begun-counted}
 use Rattle.mdcc_world.proofs.Counted.{counted-nodes, made-counted}
 use Rattle.mdcc_world.proofs.NodesStay.{runs-in}
 use Rattle.mdcc_world.specs.Nodes.{NodesRepresent, RunsAt}
-use Rattle.mdcc_worlds.proofs.Stays.{counted-stays}
+use Rattle.mdcc_theorem_worlds.proofs.Stays.{counted-stays}
 use Rattle.mdcc_world.proofs.world.World.run_begin.Goals as goal
 
 pub act_on-requires-clause-running : goal.act_on-requires-clause-running

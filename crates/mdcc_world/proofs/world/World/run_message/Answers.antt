@@ -1,14 +1,14 @@
 use Rattle.std.proofs.Common.{◌≡◌, arith, length, refl, true}
 use Rattle.std.proofs.lemmas.List.{with_items_is}
 use Rattle.std.specs.Vec.{with_items}
-use Rattle.mdcc_node.specs.StepPlans.{written}
-use Rattle.mdcc_simulation.specs.AppliedSteps.{input_happened, step_at}
-use Rattle.mdcc_simulation.specs.State.{is_up_at}
-use Rattle.mdcc_rules.specs.declared.node.Input.{Input}
+use Rattle.mdcc_node.specs.StepPlans.{unless_refused}
+use Rattle.mdcc_def_simulation.specs.AppliedSteps.{input_happened, step_at}
+use Rattle.mdcc_def_simulation.specs.State.{is_up_at}
+use Rattle.mdcc_def_rules.specs.declared.node.Input.{Input}
 use Rattle.mdcc_world.proofs.Delivered.{counted-nodes, counted-world, message-made, read-there, sent-formed, sent-short, some-number, some-sent}
 use Rattle.mdcc_world.proofs.NodesStay.{runs-in}
 use Rattle.mdcc_world.specs.Nodes.{NodesRepresent, RunsAt}
-use Rattle.mdcc_worlds.specs.DeliveryProgress.{message_counted}
+use Rattle.mdcc_theorem_worlds.specs.DeliveryProgress.{message_counted}
 use Rattle.mdcc_world.proofs.world.World.run_message.Goals as goal
 
 pub receive-requires-clause-formed : goal.receive-requires-clause-formed
@@ -61,4 +61,4 @@ returns-clause-made c w like =
     let h = input_happened after a (step_at after a (Input.Message envelope)) in
     let left = c.in_ok-made.ensures.left after (counted-world c.args.self.now w number envelope like is) here up in
     let nodes : NodesRepresent (with_items c.args.self.now.nodes c.receive.new.nodes).items h.world = rw (with_items_is c.args.self.now.nodes c.receive.new.nodes many) left in
-    message-made c.args.self.now w number envelope like is _ a (written c.in_ok-made.made c.receive.new.step) same refl c.deliver.ensures (c.in_ok-made.ensures.answer after here up) nodes
+    message-made c.args.self.now w number envelope like is _ a (unless_refused c.in_ok-made.made c.receive.new.step) same refl c.deliver.ensures (c.in_ok-made.ensures.answer after here up) nodes

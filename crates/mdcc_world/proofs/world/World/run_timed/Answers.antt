@@ -1,14 +1,14 @@
 use Rattle.std.proofs.Common.{◌≡◌, arith, length, refl}
 use Rattle.std.proofs.lemmas.List.{with_items_is}
 use Rattle.std.specs.Vec.{with_items}
-use Rattle.mdcc_node.specs.StepPlans.{written}
-use Rattle.mdcc_simulation.specs.State.{counted_event}
-use Rattle.mdcc_simulation.specs.AppliedSteps.{input_happened, step_at}
+use Rattle.mdcc_node.specs.StepPlans.{unless_refused}
+use Rattle.mdcc_def_simulation.specs.State.{counted_event}
+use Rattle.mdcc_def_simulation.specs.AppliedSteps.{input_happened, step_at}
 use Rattle.mdcc_world.proofs.Counted.{counted-nodes, made-counted}
 use Rattle.mdcc_world.proofs.Took.{input-counted}
 use Rattle.mdcc_world.proofs.NodesStay.{runs-in}
 use Rattle.mdcc_world.specs.Nodes.{NodesRepresent, RunsAt}
-use Rattle.mdcc_worlds.proofs.Stays.{counted-stays}
+use Rattle.mdcc_theorem_worlds.proofs.Stays.{counted-stays}
 use Rattle.mdcc_world.proofs.world.World.run_timed.Goals as goal
 
 pub act_on-requires-clause-running : goal.act_on-requires-clause-running
@@ -28,4 +28,4 @@ returns-clause-made c w like =
     let left = c.in_ok-made.ensures.left (counted_event w) (counted-stays w like.records.itself) here up in
     let nodes : NodesRepresent (with_items c.args.self.now.nodes c.act_on.new.nodes).items h.world = rw (with_items_is c.args.self.now.nodes c.act_on.new.nodes many) left in
     let decisions = input-counted c.args.self.now.decisions (counted_event w) a c.args.input.now (counted-stays w like.records.itself) c.requires.formed c.requires.other like.decisions in
-    made-counted c.args.self.now _ w a c.args.input.now (written c.in_ok-made.made c.act_on.new.step) like up c.requires.formed c.requires.short refl decisions (c.in_ok-made.ensures.answer (counted_event w) here up) nodes
+    made-counted c.args.self.now _ w a c.args.input.now (unless_refused c.in_ok-made.made c.act_on.new.step) like up c.requires.formed c.requires.short refl decisions (c.in_ok-made.ensures.answer (counted_event w) here up) nodes

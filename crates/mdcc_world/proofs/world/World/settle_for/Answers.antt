@@ -1,12 +1,12 @@
 use Rattle.std.proofs.Common.{◌≡◌, ◌+◌, ◌-◌, ◌<◌, ◌≤◌, Option, arith, refl, subst, sym, ℕ}
-use Rattle.mdcc_simulation.specs.State.{World}
+use Rattle.mdcc_def_simulation.specs.State.{World}
 use Rattle.mdcc_world.proofs.CutShort.{memory-always, memory-any}
 use Rattle.mdcc_world.proofs.Happened.{has-come, residual}
 use Rattle.mdcc_world.proofs.Settled.{ends-after, settle-breaks, settle-ends, settle-full, settle-goes_on, settle-limited, settle-short, settle-stops}
 use Rattle.mdcc_world.specs.SettleEnd.{IsNext}
 use Rattle.mdcc_world.specs.Represents.{IsLike}
 use Rattle.mdcc_world.specs.declared.world.World.{World as TheWorld}
-use Rattle.mdcc_worlds.specs.DeliveryProgress.{after_numbered_message}
+use Rattle.mdcc_theorem_worlds.specs.DeliveryProgress.{after_numbered_message}
 use Rattle.mdcc_world.proofs.world.World.settle_for.Goals as goal
 
 pub returns-in_err-deliver_waiting-in-Some-clause-ends : goal.returns-in_err-deliver_waiting-in-Some-clause-ends

@@ -1,9 +1,9 @@
 use Rattle.std.proofs.Common.{◌+◌, ◌<◌, ◌≤◌, List}
-use Rattle.mdcc_simulation.specs.State.{World}
-use Rattle.mdcc_language.specs.declared.lines.Line.{Line}
+use Rattle.mdcc_def_simulation.specs.State.{World}
+use Rattle.mdcc_def_language.specs.declared.lines.Line.{Line}
 use Rattle.mdcc_world.specs.SettleEnd.{HasSettled}
 use Rattle.mdcc_world.specs.Represents.{HasHappened, IsLikeSome}
-use Rattle.mdcc_worlds.specs.SettleProgress.{settle_reported}
+use Rattle.mdcc_theorem_worlds.specs.SettleProgress.{settle_reported}
 use Rattle.mdcc_world.proofs.world.World.settle_for.Given as goal
 
 abbrev pub invariant-loop-deliveries : goal.invariant-loop-deliveries

@@ -1,9 +1,9 @@
 use Rattle.std.proofs.Common.{Ok}
-use Rattle.mdcc_simulation.specs.State.{counted_event}
-use Rattle.mdcc_simulation.specs.Centres.{stop_happened}
+use Rattle.mdcc_def_simulation.specs.State.{counted_event}
+use Rattle.mdcc_def_simulation.specs.Centres.{stop_happened}
 use Rattle.mdcc_world.proofs.Happened.{opened, refused-is, residual}
-use Rattle.mdcc_worlds.proofs.Events.{stop-is}
-use Rattle.mdcc_worlds.specs.EventEffects.{at_centre}
+use Rattle.mdcc_theorem_worlds.proofs.Events.{stop-is}
+use Rattle.mdcc_theorem_worlds.specs.EventEffects.{at_centre}
 use Rattle.mdcc_world.proofs.world.World.stop.Goals as goal
 
 pub returns-in_err-at_centre-clause-happens : goal.returns-in_err-at_centre-clause-happens

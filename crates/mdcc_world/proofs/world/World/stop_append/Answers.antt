@@ -1,12 +1,12 @@
 use Rattle.std.proofs.Common.{List, OnOk, Result, Ok, Err, false, subst, ℕ}
 use Rattle.mdcc_base.specs.declared.faults.Memory.{Memory}
-use Rattle.mdcc_logs.specs.Represents.{LogsRepresent, with_up}
-use Rattle.mdcc_logs.specs.Tails.{HasTail, tail_at}
-use Rattle.mdcc_messages.specs.declared.facts.Fact.{Fact}
+use Rattle.mdcc_world_logs.specs.Represents.{LogsRepresent, with_up}
+use Rattle.mdcc_world_logs.specs.Tails.{HasTail, tail_at}
+use Rattle.mdcc_def_messages.specs.declared.facts.Fact.{Fact}
 use Rattle.mdcc_world.proofs.StoppedStep.{kept-facts, kept-tail}
 use Rattle.mdcc_world.proofs.world.World.stop_append.Goals as goal
-use Rattle.mdcc_logs.specs.Stopping.{stopped_facts}
-use Rattle.mdcc_simulation.specs.Checkpoints.{tail_stopped}
+use Rattle.mdcc_world_logs.specs.Stopping.{stopped_facts}
+use Rattle.mdcc_def_simulation.specs.Checkpoints.{tail_stopped}
 use Rattle.mdcc_world.specs.declared.world.World.{World as TheWorld}
 
 always : (r : Result (Unit {0}) Memory) (P : Type 0) → P → OnOk r P

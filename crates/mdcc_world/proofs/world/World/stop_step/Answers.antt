@@ -1,9 +1,9 @@
 use Rattle.std.proofs.Common.{◌-◌, ◌∙◌, Bool, List, Option, ap, arith, false, ℕ}
 use Rattle.std.specs.Prelude.{set}
 use Rattle.mdcc_base.specs.declared.outside.Image.{Image}
-use Rattle.mdcc_ledger.specs.Ledger.{facts_of}
-use Rattle.mdcc_simulation.specs.Limits.{passed_log_limit}
-use Rattle.mdcc_simulation.specs.State.{centre_at, is_up_at}
+use Rattle.mdcc_def_ledger.specs.Ledger.{facts_of}
+use Rattle.mdcc_def_simulation.specs.Limits.{passed_log_limit}
+use Rattle.mdcc_def_simulation.specs.State.{centre_at, is_up_at}
 use Rattle.mdcc_world.proofs.Happened.{residual, unlimited}
 use Rattle.mdcc_world.proofs.Limits.{fact-may, log-there, step-formed, step-measures}
 use Rattle.mdcc_world.proofs.StoppedStep.{step-stops, stop-refused, struck-due}

@@ -1,8 +1,8 @@
 use Rattle.std.proofs.Common.{None, Some, ap, arith, get_or, refl, sym, ◌-◌, ◌∙◌, ◌<◌, ℕ}
-use Rattle.mdcc_ledger.specs.Ledger.{facts_of}
-use Rattle.mdcc_logs.specs.Tails.{tail_at}
-use Rattle.mdcc_simulation.specs.Checkpoints.{striking}
-use Rattle.mdcc_simulation.specs.State.{is_up_at}
+use Rattle.mdcc_def_ledger.specs.Ledger.{facts_of}
+use Rattle.mdcc_world_logs.specs.Tails.{tail_at}
+use Rattle.mdcc_def_simulation.specs.Checkpoints.{striking}
+use Rattle.mdcc_def_simulation.specs.State.{is_up_at}
 use Rattle.mdcc_world.proofs.StoppedStep.{strikes-as, strikes-due, strikes-early, strikes-not}
 use Rattle.mdcc_world.proofs.world.World.striking_at.Goals as goal
 

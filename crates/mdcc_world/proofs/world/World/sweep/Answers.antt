@@ -1,9 +1,9 @@
 use Rattle.std.proofs.Common.{arith}
-use Rattle.mdcc_simulation.specs.State.{counted_event}
-use Rattle.mdcc_rules.specs.declared.node.Input.{Input}
+use Rattle.mdcc_def_simulation.specs.State.{counted_event}
+use Rattle.mdcc_def_rules.specs.declared.node.Input.{Input}
 use Rattle.mdcc_world.proofs.Happened.{free-refusal, on-ok, opened, refused-is, residual}
-use Rattle.mdcc_worlds.proofs.Events.{sweep-is}
-use Rattle.mdcc_worlds.specs.EventEffects.{at_centre, sweep_reported}
+use Rattle.mdcc_theorem_worlds.proofs.Events.{sweep-is}
+use Rattle.mdcc_theorem_worlds.specs.EventEffects.{at_centre, sweep_reported}
 use Rattle.mdcc_world.proofs.world.World.sweep.Goals as goal
 
 pub returns-in_err-at_centre-clause-happens : goal.returns-in_err-at_centre-clause-happens

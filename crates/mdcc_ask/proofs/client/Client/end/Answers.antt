@@ -1,6 +1,0 @@
-use Rattle.std.proofs.Common.{◌∙◌, List, subst, ℕ}
-use Rattle.mdcc_ask.specs.Effects.{Prints}
-use Rattle.mdcc_ask.proofs.client.Client.end.Goals as goal
-
-pub returns : goal.returns
-returns g c = subst (λ (text : List ℕ). Prints g.O.Sink.held g.O.Sink.faults text c.print.result c.args.out.now c.print.new.out) (c.as_bytes.ensures.value ∙ c.end_text.ensures) c.print.ensures

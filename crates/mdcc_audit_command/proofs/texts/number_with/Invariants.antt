@@ -1,9 +1,0 @@
-use Rattle.std.proofs.Common.{drop, ◌+◌, ◌≡◌, ◌≤◌}
-use Rattle.mdcc_audit_command.specs.Texts.{number_with}
-use Rattle.mdcc_audit_command.proofs.texts.number_with.Given as goal
-
-abbrev pub invariant-loop-e : goal.invariant-loop-e
-invariant-loop-e l = record {
-  counted : l.count + number_with l.verdict (drop l.e-index l.verdicts) ≡ number_with l.verdict l.verdicts;
-  few : l.count ≤ l.e-index;
-}

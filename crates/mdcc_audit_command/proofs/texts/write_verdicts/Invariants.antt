@@ -1,7 +1,0 @@
-use Rattle.std.proofs.Common.{◌≡◌, ◌++◌, drop, flat_map}
-use Rattle.std.specs.String.{string_bytes}
-use Rattle.mdcc_audit_command.specs.Texts.{verdict_line}
-use Rattle.mdcc_audit_command.proofs.texts.write_verdicts.Given as goal
-
-abbrev pub invariant-loop-e : goal.invariant-loop-e
-invariant-loop-e l = string_bytes l.text ++ flat_map verdict_line (drop l.e-index l.verdicts) ≡ string_bytes l.initial.text ++ flat_map verdict_line l.verdicts

@@ -1,5 +1,0 @@
-use Rattle.mdcc_audit_traces.proofs.Read.{disks-audited}
-use Rattle.mdcc_audit_traces.proofs.disks.disks_are_audited.Goals as goal
-
-pub returns : goal.returns
-returns c w disks is h logs = disks-audited w disks is logs h

@@ -1,5 +1,0 @@
-use Rattle.mdcc_audit_traces.proofs.TraceDisks.{trace-audited}
-use Rattle.mdcc_audit_traces.proofs.traces.disks_of_traces_are_audited.Goals as goal
-
-pub returns : goal.returns
-returns c = trace-audited

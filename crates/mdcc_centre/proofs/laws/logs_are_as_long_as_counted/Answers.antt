@@ -1,5 +1,0 @@
-use Rattle.mdcc_centre.proofs.Logged.{logged-length}
-use Rattle.mdcc_centre.proofs.laws.logs_are_as_long_as_counted.Goals as goal
-
-pub returns : goal.returns
-returns c facts = logged-length facts

@@ -1,5 +1,0 @@
-use Rattle.mdcc_chains.proofs.Filtered.{walk-map}
-use Rattle.mdcc_chains.proofs.theorems.walks_by_key.Goals as goal
-
-pub returns : goal.returns
-returns g c = λ key_of passes xs. walk-map key_of passes xs

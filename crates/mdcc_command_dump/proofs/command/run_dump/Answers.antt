@@ -1,0 +1,74 @@
+use Rattle.std.proofs.Common.{◌≡◌, Err, arith}
+use Rattle.std.proofs.lemmas.Result.{IfErr-at_err}
+use Rattle.mdcc_log_file.specs.declared.fault.LogFault.{LogFault}
+use Rattle.mdcc_base.specs.declared.source.ReadAllFault.{ReadAllFault}
+use Rattle.mdcc_command_dump.proofs.Completed.{dump_completes, dump_ends, still_disks}
+use Rattle.mdcc_command_dump.proofs.Ended.{input_early}
+use Rattle.mdcc_command_dump.specs.Commands.{UntouchedDisks}
+use Rattle.mdcc_command_endings.proofs.Causes.{causes_of, failed_at}
+use Rattle.mdcc_command_endings.specs.Readings.{IsEarly}
+use Rattle.mdcc_command_endings.specs.declared.fault.Failure.{Failure}
+use Rattle.mdcc_command_dump.proofs.command.run_dump.Goals as goal
+
+pub returns-clause-does : goal.returns-clause-does
+returns-clause-does g c = record {
+  dumped = c.dump_one-dumped.result;
+  ends = c.finish.ensures.ends;
+  runs = c.dump_one-dumped.ensures.runs;
+  opens = c.dump_one-dumped.ensures.opens;
+  any_moment = c.dump_one-dumped.ensures.any_moment;
+  others = c.dump_one-dumped.ensures.others.others;
+}
+
+pub returns-clause-refused : goal.returns-clause-refused
+returns-clause-refused g c = λ at.
+    let failed = failed_at c.dump_one-dumped.result c.finish.result 3 c.finish.ensures.ends.status_is at (λ h. absurd (omega arith)) (λ h. absurd (omega arith)) in
+    IfErr-at_err (λ (failure : Failure). IsEarly failure → UntouchedDisks c.args.disks.now c.dump_one-dumped.new.disks c.args.out.now c.dump_one-dumped.new.out) failed.1 c.dump_one-dumped.ensures.early ((causes_of failed.0).early failed.2)
+
+pub returns-clause-unread : goal.returns-clause-unread
+returns-clause-unread g c = λ at.
+    let failed = failed_at c.dump_one-dumped.result c.finish.result 5 c.finish.ensures.ends.status_is at (λ h. absurd (omega arith)) (λ h. absurd (omega arith)) in
+    IfErr-at_err (λ (failure : Failure). IsEarly failure → UntouchedDisks c.args.disks.now c.dump_one-dumped.new.disks c.args.out.now c.dump_one-dumped.new.out) failed.1 c.dump_one-dumped.ensures.early (input_early failed.0 ((causes_of failed.0).input failed.2))
+
+pub returns-clause-input : goal.returns-clause-input
+returns-clause-input g c = λ at.
+    let failed = failed_at c.dump_one-dumped.result c.finish.result 5 c.finish.ensures.ends.status_is at (λ h. absurd (omega arith)) (λ h. absurd (omega arith)) in
+    let cause = (causes_of failed.0).input failed.2 in
+    let e : c.dump_one-dumped.result ≡ Err (Failure.Input ReadAllFault.Failed) = cc (failed.1, cause) in
+    c.dump_one-dumped.ensures.input e
+
+pub returns-clause-disk : goal.returns-clause-disk
+returns-clause-disk g c = λ at.
+    let failed = failed_at c.dump_one-dumped.result c.finish.result 7 c.finish.ensures.ends.status_is at (λ h. absurd (omega arith)) (λ h. absurd (omega arith)) in
+    let cause = (causes_of failed.0).disk failed.2 in
+    let e : c.dump_one-dumped.result ≡ Err (Failure.Log cause.0 LogFault.DiskFault) = cc (failed.1, cause.1) in
+    c.dump_one-dumped.ensures.disk cause.0 e
+
+pub returns-clause-link : goal.returns-clause-link
+returns-clause-link g c = λ at.
+    let failed = failed_at c.dump_one-dumped.result c.finish.result 8 c.finish.ensures.ends.status_is at (λ h. absurd (omega arith)) (λ h. absurd (omega arith)) in
+    let cause = (causes_of failed.0).link failed.2 in
+    let e : c.dump_one-dumped.result ≡ Err Failure.Link = cc (failed.1, cause) in
+    c.dump_one-dumped.ensures.link e
+
+pub returns-clause-output : goal.returns-clause-output
+returns-clause-output g c = λ at.
+    let failed = failed_at c.dump_one-dumped.result c.finish.result 6 c.finish.ensures.ends.status_is at (λ h. absurd (omega arith)) (λ h. absurd (omega arith)) in
+    let cause = (causes_of failed.0).output failed.2 in
+    let e : c.dump_one-dumped.result ≡ Err Failure.Output = cc (failed.1, cause) in
+    c.dump_one-dumped.ensures.output e
+
+-- ---- over an accepted configuration
+
+pub returns-clause-logs : goal.returns-clause-logs
+returns-clause-logs g c =
+    dump_ends g.D.Disks.disk g.O.Sink.held c.args.disks.now c.dump_one-dumped.new.disks c.args.out.now c.dump_one-dumped.new.out c.dump_one-dumped.result c.finish.result c.finish.ensures.ends.status_is
+    (g.S.Source.left c.args.source.now) c.args.centre c.dump_one-dumped.ensures.runs
+
+pub returns-clause-completes : goal.returns-clause-completes
+returns-clause-completes g c = λ source output disks.
+    dump_completes g.D.Disks.disk g.O.Sink.held c.args.disks.now c.dump_one-dumped.new.disks c.args.out.now c.dump_one-dumped.new.out c.dump_one-dumped.result c.finish.result c.finish.ensures.ends.status_is
+    (λ e. source (c.dump_one-dumped.ensures.input e))
+    (λ a e. still_disks g.D.Disks.disk c.args.disks.now c.dump_one-dumped.new.disks c.args.centre disks (c.dump_one-dumped.ensures.disk a e))
+    (λ e. output (c.dump_one-dumped.ensures.output e))
+    (g.S.Source.left c.args.source.now) c.args.centre c.dump_one-dumped.ensures.runs

@@ -1,8 +1,0 @@
-use Rattle.std.proofs.Common.{ap, ◌∙◌}
-use Rattle.mdcc_delta_steps.specs.Bases.{base_in}
-use Rattle.mdcc_delta_steps.proofs.BasesRead.{base-is-read}
-use Rattle.mdcc_delta_steps.proofs.bases.item_at.Goals as goal
-
-pub returns : goal.returns
-returns c = λ fact fits is.
-    c.base_in.ensures ∙ ap (base_in c.args.key.now c.args.version) (c.start.ensures ∙ is) ∙ base-is-read c.args.key.now c.args.version fact fits

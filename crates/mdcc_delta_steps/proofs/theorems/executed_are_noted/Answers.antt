@@ -1,5 +1,0 @@
-use Rattle.mdcc_delta_steps.proofs.Walked.{crowded-by-deltas, executed-are-noted}
-use Rattle.mdcc_delta_steps.proofs.theorems.executed_are_noted.Goals as goal
-
-pub returns : goal.returns
-returns c = record { crowded = crowded-by-deltas; seen = executed-are-noted }

@@ -1,5 +1,0 @@
-use Rattle.mdcc_fact_folds.proofs.Found.{eight-instances}
-use Rattle.mdcc_fact_folds.proofs.chains.entered_eight_times.Goals as goal
-
-pub returns : goal.returns
-returns c = eight-instances

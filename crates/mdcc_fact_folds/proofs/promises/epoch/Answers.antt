@@ -1,5 +1,0 @@
-use Rattle.mdcc_fact_folds.proofs.Walked.{epoch-updates}
-use Rattle.mdcc_fact_folds.proofs.promises.epoch.Goals as goal
-
-pub returns : goal.returns
-returns c = epoch-updates

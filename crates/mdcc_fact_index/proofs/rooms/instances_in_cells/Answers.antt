@@ -1,5 +1,0 @@
-use Rattle.mdcc_fact_index.proofs.InCells.{instances-in_cells}
-use Rattle.mdcc_fact_index.proofs.rooms.instances_in_cells.Goals as goal
-
-pub returns : goal.returns
-returns c = instances-in_cells

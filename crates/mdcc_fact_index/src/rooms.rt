@@ -1,7 +1,0 @@
-//! How much room the instances of facts need.
-ghost use Rattle.mdcc_fact_index.specs.InCells.{InstancesInCells};
-
-/// A well-formed fact is of at most two instances for each cell in which it lies.
-pub fn instances_in_cells()
-    ensures { InstancesInCells }
-{}

@@ -1,5 +1,0 @@
-use Rattle.mdcc_frag_laws.proofs.Pieces.{whole_bytes}
-use Rattle.mdcc_frag_laws.proofs.laws.all_pieces_are_the_message.Goals as goal
-
-pub returns : goal.returns
-returns c = λ message held size all. whole_bytes held message size all

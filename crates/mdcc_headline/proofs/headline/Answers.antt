@@ -1,9 +1,0 @@
--- The laws are the lemmas.
-use Rattle.mdcc_headline.proofs.Runs as runs
-use Rattle.mdcc_headline.proofs.headline.Goals as goal
-
-pub returns-clause-runs : goal.returns-clause-runs
-returns-clause-runs c = runs.run-true
-
-pub returns-clause-replays : goal.returns-clause-replays
-returns-clause-replays c = runs.replay-true

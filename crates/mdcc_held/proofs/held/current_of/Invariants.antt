@@ -1,7 +1,0 @@
-use Rattle.std.proofs.Common.{◌≡◌, take}
-use Rattle.std.specs.Prelude.{reverse}
-use Rattle.mdcc_protocol.specs.Facts.{current_of}
-use Rattle.mdcc_held.proofs.held.current_of.Given as goal
-
-abbrev pub invariant-loop-fact : goal.invariant-loop-fact
-invariant-loop-fact l = l.current ≡ current_of (reverse (take l.fact-index l.facts)) l.key

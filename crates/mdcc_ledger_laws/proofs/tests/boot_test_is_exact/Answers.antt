@@ -1,8 +1,0 @@
-use Rattle.mdcc_ledger_laws.proofs.MayAddDecided.{Decides-fact, Decides-facts}
-use Rattle.mdcc_ledger_laws.proofs.tests.boot_test_is_exact.Goals as goal
-
-pub returns-clause-one_fact : goal.returns-clause-one_fact
-returns-clause-one_fact c = Decides-fact
-
-pub returns-clause-all_facts : goal.returns-clause-all_facts
-returns-clause-all_facts c = Decides-facts

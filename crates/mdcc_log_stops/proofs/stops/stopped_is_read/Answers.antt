@@ -1,5 +1,0 @@
-use Rattle.mdcc_log_stops.proofs.Stopped.{stopped_is_read}
-use Rattle.mdcc_log_stops.proofs.stops.stopped_is_read.Goals as goal
-
-pub returns : goal.returns
-returns c = stopped_is_read

@@ -1,7 +1,0 @@
-use Rattle.std.proofs.Common.{◌≡◌, drop}
-use Rattle.mdcc_outcomes.specs.Casts.{mark_cast}
-use Rattle.mdcc_outcomes.proofs.casts.mark_cast.Given as goal
-
-abbrev pub invariant-loop-cast : goal.invariant-loop-cast
-invariant-loop-cast l =
-    mark_cast (drop l.cast-index l.casts) l.key l.version l.ballot l.centre ≡ mark_cast l.casts l.key l.version l.ballot l.centre

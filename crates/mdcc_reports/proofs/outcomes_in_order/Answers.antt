@@ -1,6 +1,0 @@
--- The law is the lemma.
-use Rattle.mdcc_reports.proofs.Order as order
-use Rattle.mdcc_reports.proofs.outcomes_in_order.Goals as goal
-
-pub returns : goal.returns
-returns c = order.outcomes-in-order

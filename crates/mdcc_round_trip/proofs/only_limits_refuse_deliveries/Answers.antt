@@ -1,5 +1,0 @@
-use Rattle.mdcc_round_trip.proofs.Refusals.{only-limits}
-use Rattle.mdcc_round_trip.proofs.only_limits_refuse_deliveries.Goals as goal
-
-pub returns : goal.returns
-returns c = only-limits

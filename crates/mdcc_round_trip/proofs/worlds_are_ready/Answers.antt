@@ -1,5 +1,0 @@
-use Rattle.mdcc_round_trip.proofs.Worlds.{worlds-ready}
-use Rattle.mdcc_round_trip.proofs.worlds_are_ready.Goals as goal
-
-pub returns : goal.returns
-returns c = worlds-ready

@@ -1,5 +1,0 @@
-use Rattle.mdcc_run_laws.proofs.Asked.{requests_come}
-use Rattle.mdcc_run_laws.proofs.laws.datagrams_at_the_clients_endpoint_bring_requests.Goals as goal
-
-pub returns : goal.returns
-returns c = requests_come

@@ -1,5 +1,0 @@
-use Rattle.mdcc_spelling.proofs.Whole.{fact_again}
-use Rattle.mdcc_spelling.proofs.facts.facts_are_read_back.Goals as goal
-
-pub returns : goal.returns
-returns c = fact_again

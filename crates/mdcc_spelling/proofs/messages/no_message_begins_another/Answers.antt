@@ -1,5 +1,0 @@
-use Rattle.mdcc_spelling.proofs.Whole.{messages_apart}
-use Rattle.mdcc_spelling.proofs.messages.no_message_begins_another.Goals as goal
-
-pub returns : goal.returns
-returns c = messages_apart

@@ -1,5 +1,0 @@
-use Rattle.mdcc_spelling.proofs.Longest.{longest_choice}
-use Rattle.mdcc_spelling.proofs.sizes.choices_are_short.Goals as goal
-
-pub returns : goal.returns
-returns c = longest_choice

@@ -1,8 +1,0 @@
-use Rattle.mdcc_spelling.proofs.Lengths.{length-message, length-fact}
-use Rattle.mdcc_spelling.proofs.sizes.lengths_are_exact.Goals as goal
-
-pub returns-clause-messages : goal.returns-clause-messages
-returns-clause-messages c = length-message
-
-pub returns-clause-facts : goal.returns-clause-facts
-returns-clause-facts c = length-fact

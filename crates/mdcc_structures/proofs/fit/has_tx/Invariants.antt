@@ -1,6 +1,0 @@
-use Rattle.std.proofs.Common.{◌≡◌, drop}
-use Rattle.mdcc_protocol.specs.Fit.{has_tx}
-use Rattle.mdcc_structures.proofs.fit.has_tx.Given as goal
-
-abbrev pub invariant-loop-other : goal.invariant-loop-other
-invariant-loop-other l = has_tx (drop l.other-index l.txs) l.tx ≡ has_tx l.txs l.tx

@@ -1,0 +1,43 @@
+//! Calls of `serve_node` as lives of centres: what a cluster of them makes durable, sends and prints.
+#![tactic(auto)]
+
+ghost use Rattle.mdcc_theorem_cluster_nodes.specs.Calls.{CallsAreLives};
+ghost use Rattle.mdcc_theorem_cluster_nodes.specs.Clusters.{FrontsAreCalls, HeadlineOfCalls};
+ghost use Rattle.mdcc_theorem_cluster_nodes.specs.Refused.{RefusedCallsDoNothing};
+ghost use Rattle.mdcc_theorem_cluster_nodes.specs.Several.{AllCentresLive};
+
+mod called;
+
+pub use called::{call_cluster, call_node};
+use mdcc_base::Sink;
+use mdcc_disks::Disks;
+use mdcc_link::Link;
+
+/// Over whatever disks, link and output: by its contract a call of `serve_node` is a life of its centre, whole, or broken off at some
+/// act with the last group in the log whole or not at all; and what is read of its areas later is the log that this life left.
+pub fn calls_are_lives<D: Disks, L: Link, O: Sink>()
+    ensures { CallsAreLives D.disk D.may_leave D.tears L.calls L.lost O.held }
+{}
+
+/// A call that refuses its log, since no node boots from it, is a life without an act, whatever a crash leaves of the log then.
+pub fn refused_calls_do_nothing<D: Disks, L: Link, O: Sink>()
+    ensures { RefusedCallsDoNothing O D.disk D.may_leave D.tears L.calls L.lost }
+{}
+
+/// So a call of `serve_cluster` is a life of each of its centres: each of its acts is done by one of them, and those of each are a life
+/// over its own log.
+pub fn all_centres_live<D: Disks, L: Link, O: Sink>()
+    ensures { AllCentresLive D.disk D.may_leave D.tears L.calls L.lost O.held }
+{}
+
+/// The headline for programs: of all that calls of `serve_node` did, one at a time for each centre, each over the areas that the one
+/// before left, in whatever order their acts came, where a centre's own endpoint got only what a centre of the cluster had sent.
+pub fn headline_of_calls<D: Disks, L: Link, O: Sink>()
+    ensures { HeadlineOfCalls D.disk D.may_leave D.tears L.calls L.lost O.held }
+{}
+
+/// What was so far of such calls is of such calls. So the headline holds at every moment, with just the facts that were appended until
+/// then: nothing is sent or printed that follows from facts which become durable only later.
+pub fn fronts_are_calls<D: Disks, L: Link, O: Sink>()
+    ensures { FrontsAreCalls D.disk D.may_leave D.tears L.calls L.lost O.held }
+{}

@@ -1,0 +1,22 @@
+-- What holds of the facts of a store, since each met the condition of an addition.
+use Rattle.std.specs.List.{list_all}
+use Rattle.std.specs.Prelude.{◌≡◌, List, [], false, true, ◌∷◌}
+use Rattle.mdcc_def_messages.specs.declared.facts.Fact.{Fact}
+use Rattle.mdcc_def_protocol.specs.Facts.{has_floor}
+use Rattle.mdcc_facts.specs.Adding.{MayBeAdded}
+use Rattle.mdcc_facts.specs.Listed.{are_voted_once}
+use Rattle.mdcc_theorem_fact_folds.specs.Live.{is_ordered}
+use Rattle.mdcc_theorem_fact_folds.specs.Outcomes.{are_heard_once}
+
+-- no mark was voted twice at its ballot, no transaction was heard twice, the entries of each fact stand in order, and no floor is set
+pub record AreAdded (facts : List Fact) : Type 0 where
+  pub voted : are_voted_once facts ≡ true
+  pub heard : are_heard_once facts ≡ true
+  pub ordered : list_all is_ordered facts ≡ true
+  pub no_floor : has_floor facts ≡ false
+
+abbrev pub NoFactsAreAdded : Type 0
+NoFactsAreAdded = AreAdded []
+
+abbrev pub FactsStayAdded : Type 0
+FactsStayAdded = (facts : List Fact) (fact : Fact) → AreAdded facts → MayBeAdded facts fact → AreAdded (fact ∷ facts)

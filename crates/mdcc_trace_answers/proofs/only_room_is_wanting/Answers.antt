@@ -1,6 +1,0 @@
--- The law is the lemma.
-use Rattle.mdcc_trace_answers.proofs.Traces.{all-answered}
-use Rattle.mdcc_trace_answers.proofs.only_room_is_wanting.Goals as goal
-
-pub returns : goal.returns
-returns c = all-answered

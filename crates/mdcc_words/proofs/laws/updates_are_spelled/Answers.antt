@@ -1,5 +1,0 @@
-use Rattle.mdcc_words.proofs.Spelled.{update_spelled}
-use Rattle.mdcc_words.proofs.laws.updates_are_spelled.Goals as goal
-
-pub returns : goal.returns
-returns c = update_spelled

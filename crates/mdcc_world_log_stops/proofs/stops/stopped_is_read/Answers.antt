@@ -1,0 +1,5 @@
+use Rattle.mdcc_world_log_stops.proofs.Stopped.{stopped_is_read}
+use Rattle.mdcc_world_log_stops.proofs.stops.stopped_is_read.Goals as goal
+
+pub returns : goal.returns
+returns c = stopped_is_read

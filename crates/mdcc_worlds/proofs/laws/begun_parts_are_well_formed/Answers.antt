@@ -1,5 +1,0 @@
-use Rattle.mdcc_worlds.proofs.Drafting.{parts-formed}
-use Rattle.mdcc_worlds.proofs.laws.begun_parts_are_well_formed.Goals as goal
-
-pub returns : goal.returns
-returns c = parts-formed

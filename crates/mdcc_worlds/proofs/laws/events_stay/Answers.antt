@@ -1,5 +1,0 @@
-use Rattle.mdcc_worlds.proofs.Staying.{event-between}
-use Rattle.mdcc_worlds.proofs.laws.events_stay.Goals as goal
-
-pub returns : goal.returns
-returns c = event-between
