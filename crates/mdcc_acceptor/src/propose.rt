@@ -1,8 +1,8 @@
 //! What an acceptor answers to a proposal at the fast ballot. (Fast Paxos; MDCC.)
-ghost use Rattle.std.specs.Prelude.{◌≡◌, IfSome, List, None};
+ghost use Rattle.std.specs.Prelude.{◌≡◌, ◌≤◌, IfSome, List, None};
 ghost use Rattle.mdcc_def_messages.specs.declared.facts.Fact.{Fact as AFact};
 ghost use Rattle.mdcc_def_protocol.specs.Acceptor.{answer_after, answer_by_promise, answer_by_vote, answer_to_new, fit_of, on_propose, vote_by_fit, vote_on, vote_to_accept, vote_to_reject};
-ghost use Rattle.mdcc_def_protocol.specs.Facts.{outcome_kept, vote_of};
+ghost use Rattle.mdcc_def_protocol.specs.Facts.{current_of, outcome_kept, vote_of};
 ghost use Rattle.mdcc_def_protocol.specs.Marks.{seen_in};
 ghost use Rattle.mdcc_def_protocol.specs.declared.acceptor.ProposeAnswer.{ProposeAnswer as AProposeAnswer};
 
@@ -24,9 +24,9 @@ fn seen_in(update: &Update) -> &[TxId]
     }
 }
 
-// How a choice fits beside the live choices of its instance.
+// How a choice fits beside the live choices of its instance, where that is not below the version held.
 fn fit_of<S: FactStore>(store: &S, cluster: &Cluster, choice: &Choice) -> Fit
-    ensures { (facts : List AFact) → S.stands store.now facts → result ≡ fit_of cluster.now facts choice.now }
+    ensures { (facts : List AFact) → S.stands store.now facts → current_of facts choice.now.key ≤ choice.now.version → result ≡ fit_of cluster.now facts choice.now }
 {
     capped_loads_are_bounded();
     let base = store.base(&choice.key);

@@ -1,4 +1,4 @@
-mod Ascending
+pub mod Ascending
 mod Blocks
 pub mod Filtered
 mod Indexed

@@ -90,4 +90,12 @@ impl Chains {
         self.links.push_reserved(self.heads.get(chain));
         self.heads.set(chain, index);
     }
+
+    /// All chains are empty again. It takes no memory and gives none back.
+    pub fn clear(&mut self)
+        ensures { self.new ≡ record { heads = replicate (length self.old.heads) None; links = []; room = self.old.room } }
+    {
+        self.heads.clear();
+        self.links.clear();
+    }
 }

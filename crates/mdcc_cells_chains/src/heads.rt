@@ -40,6 +40,15 @@ fn no_blocks(alloc: Global, count: u32) -> Result<Vec<Option<u32>>, Memory>
     Ok(blocks)
 }
 
+// None of the blocks is written any more.
+fn clear_blocks(blocks: &mut Vec<Option<u32>>)
+    ensures { blocks.new.items ≡ replicate (length blocks.old.items) None }
+{
+    let count = blocks.len();
+    blocks.clear();
+    blocks.resize(count, None).unwrap();
+}
+
 // The number of a block, which is written where it was not.
 fn block_at(blocks: &mut Vec<Option<u32>>, heads: &mut Vec<Option<u32>>, at: usize) -> u32
     requires blocks { AreBlocks blocks.old.items heads.old.items (vec_capacity heads.old) }
@@ -98,5 +107,13 @@ impl Heads {
     {
         let block = block_at(&mut self.blocks, &mut self.heads, chain / BLOCK);
         self.heads[block as usize * BLOCK + chain % BLOCK] = Some(index);
+    }
+
+    /// No chain has an index any more.
+    pub(crate) fn clear(&mut self)
+        ensures { self.new ≡ replicate (length self.old) None }
+    {
+        clear_blocks(&mut self.blocks);
+        self.heads.clear();
     }
 }

@@ -144,6 +144,14 @@ impl<K: IndexKey> Index<K> {
         self.keys.push(key).unwrap();
     }
 
+    /// No key again, with the same room. It takes no memory and gives none back.
+    pub fn clear(&mut self)
+        ensures { self.new ≡ record { room = self.old.room; keys = [] } }
+    {
+        self.chains.clear();
+        self.keys.clear();
+    }
+
     /// The newest index of a key.
     pub fn first(&self, key: &K) -> Option<u32>
         ensures value { result ≡ first_in (walk (K.same key.now) self.now.keys) }

@@ -76,4 +76,11 @@ impl KeyTable {
         self.index.push(*key);
         index
     }
+
+    /// No key again, with the same room. It takes no memory and gives none back.
+    pub fn clear(&mut self)
+        ensures { self.new ≡ record { room = self.old.room; keys = [] } }
+    {
+        self.index.clear();
+    }
 }

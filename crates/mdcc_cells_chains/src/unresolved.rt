@@ -163,4 +163,11 @@ impl Unresolved {
             self.entries.remove(place);
         }
     }
+
+    /// No transaction again, with the same room. It takes no memory and gives none back.
+    pub fn clear(&mut self)
+        ensures { self.new ≡ record { room = self.old.room; entries = [] } }
+    {
+        self.entries.clear();
+    }
 }

@@ -11,7 +11,7 @@ use Rattle.mdcc_theorem_encoding.proofs.Lengths.{length-fact}
 use Rattle.mdcc_pool.specs.Held.{HeldCells, bytes_held_at}
 use Rattle.mdcc_pool.specs.Sizes.{cells_for}
 use Rattle.mdcc_pool.specs.declared.pool.Ticket.{Ticket}
-use Rattle.mdcc_cells_facts.specs.Stored.{bytes_or_none, bytes_under, encodings_in, no_ticket, AreTicketed}
+use Rattle.mdcc_cells_facts.specs.Stored.{bytes_or_none, bytes_under, cells_taken, encodings_in, no_ticket, AreTicketed}
 
 abbrev pub nothing : Option (List ℕ)
 nothing = None
@@ -48,9 +48,13 @@ stored-more old new tickets ticket bytes held unused within put =
     ∙ ap (λ bs. bs ++ bytes_under (set old.held ticket.first (Some bytes)) ticket ∷ []) (encodings-stay old.held ticket.first bytes tickets unused held)
     ∙ ap (λ b. encodings_in old.held tickets ++ bytes_or_none b ∷ []) (get_or-set_same old.held ticket.first (Some bytes) None within)
 
+pub taken-more : (encodings : List (List ℕ)) (bytes : List ℕ) → cells_taken (encodings ++ bytes ∷ []) ≡ cells_for (length bytes) + cells_taken encodings
+taken-more [] bytes = refl
+taken-more (e ∷ encodings) bytes = omega (arith, taken-more encodings bytes)
+
 module _ (old new : HeldCells) (tickets : List Ticket) (ticket : Ticket) (bytes : List ℕ) (capacity larger cells : ℕ) (kept : AreTicketed old tickets capacity)
     (unused : bytes_held_at old ticket.first ≡ None) (within : ticket.first < length old.held) (put : new.held ≡ set old.held ticket.first (Some bytes))
-    (used : new.spare + cells ≡ old.spare) (some : 1 ≤ cells) where
+    (used : new.spare + cells ≡ old.spare) (some : 1 ≤ cells) (needed : cells ≡ cells_for (length bytes)) where
   held-more : (number : ℕ) → number < length (tickets ++ ticket ∷ []) → IsSome (bytes_held_at new (get_or (tickets ++ ticket ∷ []) number no_ticket).first)
   held-more number below =
       elim (cases_lt number (length tickets)) [
@@ -73,6 +77,16 @@ module _ (old new : HeldCells) (tickets : List Ticket) (ticket : Ticket) (bytes 
   ticketed-more more = record {
     held = held-more;
     used = omega (arith, kept.used, length-append tickets (ticket ∷ []), ap length put, length-set old.held ticket.first (Some bytes));
+    counted = omega (
+      arith,
+      kept.counted,
+      used,
+      needed,
+      ap cells_taken (stored-more old new tickets ticket bytes kept.held unused within put),
+      taken-more (encodings_in old.held tickets) bytes,
+      ap length put,
+      length-set old.held ticket.first (Some bytes),
+    );
     room = omega (arith, kept.room, ap length put, length-set old.held ticket.first (Some bytes));
     small = omega (arith, kept.small, ap length put, length-set old.held ticket.first (Some bytes));
   }
@@ -83,6 +97,7 @@ ticketed-none pool cells capacity is room small =
     record {
       held = λ number below. absurd (omega arith);
       used = omega (arith, long, ap (λ p. p.spare) is);
+      counted = omega (arith, long, ap (λ p. p.spare) is);
       room = omega (arith, long);
       small = omega (arith, long);
     }

@@ -1,8 +1,8 @@
 -- When a fact may be added to others, and what the store answers.
 use Rattle.std.specs.List.{list_any}
-use Rattle.std.specs.Prelude.{◌≡◌, ◌≤◌, Bool, Err, List, Ok, Result, false, if◌then◌else◌, is_some, nat_lt, true, ℕ}
+use Rattle.std.specs.Prelude.{◌≡◌, ◌≤◌, Bool, Err, List, Ok, Result, Some, false, if◌then◌else◌, is_some, nat_lt, not, true, ℕ}
 use Rattle.mdcc_struct.specs.Maps.{value_of}
-use Rattle.mdcc_def_protocol.specs.Facts.{is_floor, is_heard, promised_through, votes_of}
+use Rattle.mdcc_def_protocol.specs.Facts.{is_finished, is_floor, is_heard, promised_through, votes_of}
 use Rattle.mdcc_def_protocol.specs.News.{is_crowding}
 use Rattle.mdcc_def_messages.specs.Lengths.{fact_length}
 use Rattle.mdcc_def_messages.specs.WellFormed.{IsWellFormedFact}
@@ -27,13 +27,27 @@ abbrev pub is_heard_before : List Fact → Fact → Bool
 is_heard_before facts (Fact.Heard tx outcome) = is_heard facts tx
 is_heard_before facts _ = false
 
--- it is well-formed, has at most as many bytes as a frame of a log holds, and says nothing a second time. No store takes a floor yet
+-- it tells the outcome of a finished transaction, or has a mark of one
+abbrev pub tells_of_finished : List Fact → Fact → Bool
+tells_of_finished facts (Fact.Voted key version ballot options offered) = list_any (λ e. is_finished facts e.0) options
+tells_of_finished facts (Fact.Heard tx outcome) = is_finished facts tx
+tells_of_finished facts _ = false
+
+-- it offers a choice of a transaction of which it has no mark
+abbrev pub offers_unmarked : Fact → Bool
+offers_unmarked (Fact.Voted key version ballot options (Some choice)) = not (is_some (value_of options choice.tx))
+offers_unmarked _ = false
+
+-- it is well-formed, has at most as many bytes as a frame of a log holds, says nothing a second time and nothing of a finished transaction,
+-- and what it offers is of a transaction that it marks. No store takes a floor yet
 pub record MayBeAdded (facts : List Fact) (fact : Fact) : Type 0 where
   pub well_formed : IsWellFormedFact fact
   pub short : fact_length fact ≤ 2097152
   pub promised : is_promised_before facts fact ≡ false
   pub voted : is_voted_before facts fact ≡ false
   pub heard : is_heard_before facts fact ≡ false
+  pub unfinished : tells_of_finished facts fact ≡ false
+  pub marked : offers_unmarked fact ≡ false
   pub no_floor : is_floor fact ≡ false
 
 -- ---- what the store answers

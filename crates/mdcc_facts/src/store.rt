@@ -1,5 +1,5 @@
 //! What a store of facts promises.
-ghost use Rattle.std.specs.Prelude.{◌≡◌, ◌+◌, ◌∷◌, ℕ, IfOk, IsTrue, List, OnErr, OnOk, true};
+ghost use Rattle.std.specs.Prelude.{◌≡◌, ◌≤◌, ◌+◌, ◌∷◌, ℕ, IfOk, IsTrue, List, OnErr, OnOk, true};
 ghost use Rattle.mdcc_base.specs.Unless.{GivesUnless};
 ghost use Rattle.mdcc_def_messages.specs.declared.facts.Fact.{Fact as AFact};
 ghost use Rattle.mdcc_def_protocol.specs.Facts.{base_of, choice_known, current_of, epoch_of, executed_of, is_finished, is_heard, is_settled, last_ballot, outcome_kept, promise_of, promised_through, shown_of, unresolved_of, vote_of};
@@ -103,9 +103,10 @@ pub trait FactStore {
         ensures { (facts : List AFact) → stands self.now facts → result ≡ delta_of facts key.now tx };
 
     /// What the live choices of an instance weigh beside a seen set. Counts stop at 2^32 - 1 and
-    /// sums at 2^96.
+    /// sums at 2^96. Below the version that is held nothing is promised of them: what was adopted
+    /// there may be given back.
     fn load(&self, key: &Key, version: u64, seen: &[TxId]) -> Load
-        ensures { (facts : List AFact) → stands self.now facts → result ≡ load_at facts key.now version seen.now };
+        ensures { (facts : List AFact) → stands self.now facts → current_of facts key.now ≤ version → result ≡ load_at facts key.now version seen.now };
 
     /// How many marks accept and how many reject in an instance at the fast ballot, each at most
     /// 2^32 - 1.

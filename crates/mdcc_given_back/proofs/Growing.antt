@@ -19,7 +19,7 @@ use Rattle.mdcc_struct.proofs.Order.{tx_eq-same}
 use Rattle.mdcc_def_protocol.specs.Marks.{is_write}
 use Rattle.mdcc_def_messages.specs.declared.facts.Fact.{Fact}
 use Rattle.mdcc_def_protocol.specs.Facts.{current_of, floor_of, heard_of, is_finished, is_forgotten, is_idle, is_needed, is_past, outcome_in, shows_mark, version_from, version_given}
-use Rattle.mdcc_given_back.specs.Growth.{BaredStays, DroppedStays, RestsGrow, RestsStay, tells_of_finished}
+use Rattle.mdcc_given_back.specs.Growth.{BaredStays, DroppedStays, RestsGrow, RestsGrowByAdded, RestsStay, tells_of_finished}
 use Rattle.mdcc_given_back.specs.Rest.{IsLeft, is_vote_past}
 
 -- ---- numbers that rise
@@ -229,3 +229,6 @@ rests_stay new all (left ∷ rest) (fact ∷ facts) tells (inr is) =
 
 pub rests_grow : RestsGrow
 rests_grow new rest facts tells is = inr (inl refl, rests_stay new facts rest facts tells is)
+
+pub rests_grow_by_added : RestsGrowByAdded
+rests_grow_by_added new rest facts may is = rests_grow new rest facts may.unfinished is

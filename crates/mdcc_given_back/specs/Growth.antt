@@ -1,15 +1,9 @@
 -- What is given back of the facts of a centre stays so when further facts come.
-use Rattle.std.specs.List.{list_any}
-use Rattle.std.specs.Prelude.{◌≡◌, Bool, List, false, true, ◌∷◌}
+use Rattle.std.specs.Prelude.{◌≡◌, List, false, true, ◌∷◌}
 use Rattle.mdcc_def_messages.specs.declared.facts.Fact.{Fact}
-use Rattle.mdcc_def_protocol.specs.Facts.{is_finished}
+use Rattle.mdcc_facts.specs.Adding.{MayBeAdded}
+pub use Rattle.mdcc_facts.specs.Adding.{tells_of_finished}
 use Rattle.mdcc_given_back.specs.Rest.{AreRest, IsRest, is_bared, is_dropped}
-
--- a fact tells the outcome of a finished transaction, or has a mark of one
-abbrev pub tells_of_finished : List Fact → Fact → Bool
-tells_of_finished facts (Fact.Voted key version ballot options offered) = list_any (λ e. is_finished facts e.0) options
-tells_of_finished facts (Fact.Heard tx outcome) = is_finished facts tx
-tells_of_finished facts _ = false
 
 -- of what is dropped nothing is asked later, where the further fact tells nothing of a finished transaction
 abbrev pub DroppedStays : Type 0
@@ -30,3 +24,7 @@ RestsStay =
 -- so a rest with a further fact is a rest of all facts with it
 abbrev pub RestsGrow : Type 0
 RestsGrow = (new : Fact) (rest facts : List Fact) → tells_of_finished facts new ≡ false → IsRest rest facts → IsRest (new ∷ rest) (new ∷ facts)
+
+-- each fact that may be added is such a one
+abbrev pub RestsGrowByAdded : Type 0
+RestsGrowByAdded = (new : Fact) (rest facts : List Fact) → MayBeAdded facts new → IsRest rest facts → IsRest (new ∷ rest) (new ∷ facts)

@@ -72,7 +72,7 @@ module _ (me : ℕ) (facts : List Fact) (volatile : Volatile) (s : ℕ) where
       → AddsAlone facts volatile (prepared_step me facts volatile s key version ballot (promise_answer before new))
   promised-adds key version new ballot (Some high) e = record { ends = tt; keeps = refl; follows = tt }
   promised-adds key version new ballot None e =
-      record { ends = refl; keeps = refl; follows = (record { promised = rw e refl; voted = refl; heard = refl; no_floor = refl }, refl) }
+      record { ends = refl; keeps = refl; follows = (record { promised = rw e refl; voted = refl; heard = refl; unfinished = refl; marked = refl; no_floor = refl }, refl) }
 
   prepared-adds : (key : Key) (version through : ℕ) (ballot promise : Ballot) (low : Bool)
       → AddsAlone facts volatile (prepared_step me facts volatile s key version ballot
@@ -84,18 +84,22 @@ module _ (me : ℕ) (facts : List Fact) (volatile : Volatile) (s : ℕ) where
   prepare-adds key version through ballot =
       prepared-adds key version through ballot (promise_of facts key version) (ballot_lt ballot (promise_of facts key version))
 
-  -- none of the new marks was voted
+  -- none of the new marks was voted, or is of a finished transaction
+  HasNonePast : Options → Options → Type 0
+  HasNonePast votes marks = (list_any (λ e. is_some (value_of votes e.0)) marks ≡ false) × (list_any (λ e. is_finished facts e.0) marks ≡ false)
+
+  abbrev new : Options → Options → Options
+  new votes es = filter (λ e. not (is_some (value_of votes e.0) || is_finished facts e.0)) es
+
   none-by : (votes es : Options) (e : TxId × Mark) (voted finished : Bool) → is_some (value_of votes e.0) ≡ voted → is_finished facts e.0 ≡ finished
-      → list_any (λ e. is_some (value_of votes e.0)) (filter (λ e. not (is_some (value_of votes e.0) || is_finished facts e.0)) es) ≡ false
-      → list_any (λ e. is_some (value_of votes e.0)) (filter (λ e. not (is_some (value_of votes e.0) || is_finished facts e.0)) (e ∷ es)) ≡ false
+      → HasNonePast votes (new votes es) → HasNonePast votes (new votes (e ∷ es))
   none-by votes es e true finished h f rest = rw h rest
   none-by votes es e false true h f rest = rw (h, f) rest
-  none-by votes es e false false h f rest = rw (h, f, h) rest
+  none-by votes es e false false h f rest = (rw (h, f, h) rest.0, rw (h, f, f) rest.1)
 
-  none-voted : (votes options : Options)
-      → list_any (λ e. is_some (value_of votes e.0)) (filter (λ e. not (is_some (value_of votes e.0) || is_finished facts e.0)) options) ≡ false
-  none-voted votes [] = refl
-  none-voted votes (e ∷ es) = none-by votes es e (is_some (value_of votes e.0)) (is_finished facts e.0) refl refl (none-voted votes es)
+  none-past : (votes options : Options) → HasNonePast votes (new votes options)
+  none-past votes [] = (refl, refl)
+  none-past votes (e ∷ es) = none-by votes es e (is_some (value_of votes e.0)) (is_finished facts e.0) refl refl (none-past votes es)
 
   accepted-adds : (key : Key) (version : ℕ) (ballot : Ballot) (options : Options) (answer : AcceptAnswer)
       → AddsAlone facts volatile (accepted_step me facts volatile s key version ballot options answer)
@@ -105,19 +109,31 @@ module _ (me : ℕ) (facts : List Fact) (volatile : Volatile) (s : ℕ) where
   accepted-adds key version ballot options AcceptAnswer.Vote = record {
     ends = refl;
     keeps = refl;
-    follows = (record { promised = refl; voted = none-voted (votes_of facts key version ballot) options; heard = refl; no_floor = refl }, refl);
+    follows = (
+      record {
+        promised = refl;
+        voted = (none-past (votes_of facts key version ballot) options).0;
+        heard = refl;
+        unfinished = (none-past (votes_of facts key version ballot) options).1;
+        marked = refl;
+        no_floor = refl;
+      },
+      refl,
+    );
   }
 
   pub accept-adds : (key : Key) (version : ℕ) (ballot : Ballot) (options : Options) → AddsAlone facts volatile (accept_step me facts volatile s key version ballot options)
   accept-adds key version ballot options = accepted-adds key version ballot options (on_accept facts key version ballot options)
 
-unheard : (heard finished : Bool) → (heard || finished) ≡ false → heard ≡ false
-unheard true finished e = absurd (cc)
-unheard false finished e = refl
+neither : (heard finished : Bool) → (heard || finished) ≡ false → (heard ≡ false) × (finished ≡ false)
+neither true finished e = absurd (cc)
+neither false finished e = (refl, e)
 
 module _ (facts : List Fact) (volatile : Volatile) (tx : TxId) (outcome : Outcome) where
   pub heard-follows : is_settled facts tx ≡ false → MayFollow facts (Some (Fact.Heard tx outcome))
-  heard-follows e = (record { promised = refl; voted = refl; heard = unheard (is_heard facts tx) (is_finished facts tx) e; no_floor = refl }, refl)
+  heard-follows e =
+      let none = neither (is_heard facts tx) (is_finished facts tx) e in
+      (record { promised = refl; voted = refl; heard = none.0; unfinished = none.1; marked = refl; no_floor = refl }, refl)
 
   outcome-by : (settled : Bool) → is_settled facts tx ≡ settled
       → AddsAlone facts volatile (outcome_step_by volatile tx (if settled then None else Some (Fact.Heard tx outcome)))
@@ -169,7 +185,7 @@ module _ (me : ℕ) (facts : List Fact) (volatile : Volatile) (s : ℕ) (tx : Tx
 module _ (facts : List Fact) (volatile : Volatile) (give : Give) where
   adopted-by : (news : Bool)
       → AddsAlone facts volatile (sync_give_step_by volatile (if news then Some (Fact.Adopted give.key give.version give.item give.adds) else None))
-  adopted-by true = record { ends = refl; keeps = refl; follows = (record { promised = refl; voted = refl; heard = refl; no_floor = refl }, refl) }
+  adopted-by true = record { ends = refl; keeps = refl; follows = (record { promised = refl; voted = refl; heard = refl; unfinished = refl; marked = refl; no_floor = refl }, refl) }
   adopted-by false = record { ends = tt; keeps = refl; follows = tt }
 
   pub adopted-adds : AddsAlone facts volatile (sync_give_step facts volatile give)

@@ -6,6 +6,7 @@ use Rattle.mdcc_base.specs.Ballot.{ballot_lt, fast_ballot}
 use Rattle.mdcc_base.specs.declared.identifiers.Ballot.{Ballot}
 use Rattle.mdcc_base.specs.declared.identifiers.TxId.{TxId}
 use Rattle.mdcc_base.specs.declared.key.Key.{Key}
+use Rattle.mdcc_facts.specs.Adding.{offers_unmarked}
 use Rattle.mdcc_node.specs.StepPlans.{IsNews}
 use Rattle.mdcc_node.specs.StepParts.{vote_fact}
 use Rattle.mdcc_option.specs.declared.choices.Choice.{Choice}
@@ -18,6 +19,7 @@ use Rattle.mdcc_def_protocol.specs.declared.acceptor.ProposeAnswer.{ProposeAnswe
 use Rattle.mdcc_def_messages.specs.declared.facts.Fact.{Fact}
 use Rattle.mdcc_struct.specs.Maps.{value_of}
 use Rattle.mdcc_struct.specs.declared.options.Options.{Options}
+use Rattle.mdcc_struct.proofs.Order.{tx_eq-refl}
 use Rattle.mdcc_struct.proofs.Values.{value_of-union}
 
 -- ---- what was not voted has no mark
@@ -61,6 +63,11 @@ unvoted (fact ∷ facts) key version tx ballot e =
 
 -- ---- an acceptor's vote
 
+-- what it offers is of its own mark
+own-offer : (choice : Choice) (mark : Mark) → offers_unmarked (vote_fact choice mark) ≡ false
+own-offer choice (Mark.Accept own) = refl
+own-offer choice Mark.Reject = rw (tx_eq-refl choice.tx) refl
+
 shown : {X : Type 0} (finished below : Bool) (last : Option X) → finished ≡ false → (if finished && below then None else last) ≡ None → last ≡ None
 shown true below last f e = absurd (cc)
 shown false below last f e = e
@@ -68,18 +75,19 @@ shown false below last f e = e
 module _ (cluster : Cluster) (facts : List Fact) (choice : Choice) (mark : Mark) where
   vote-by : (finished : Bool) (vote : Option (Ballot × Mark)) → is_finished facts choice.tx ≡ finished → vote_of facts choice.key choice.version choice.tx ≡ vote
       → (if finished then ProposeAnswer.Finished else answer_by_vote cluster facts choice vote) ≡ ProposeAnswer.Vote mark
-      → last_vote facts choice.key choice.version choice.tx ≡ None
+      → (last_vote facts choice.key choice.version choice.tx ≡ None) × (is_finished facts choice.tx ≡ false)
   vote-by true vote f v e = absurd (cc)
   vote-by false (Some vote) f v e = absurd (cc)
   vote-by false None f v e =
-      shown (is_finished facts choice.tx) (nat_lt choice.version (current_of facts choice.key)) (last_vote facts choice.key choice.version choice.tx) f v
+      (shown (is_finished facts choice.tx) (nat_lt choice.version (current_of facts choice.key)) (last_vote facts choice.key choice.version choice.tx) f v, f)
 
-  vote-after : (kept : Option Outcome) → answer_after cluster facts choice kept ≡ ProposeAnswer.Vote mark → last_vote facts choice.key choice.version choice.tx ≡ None
+  vote-after : (kept : Option Outcome) → answer_after cluster facts choice kept ≡ ProposeAnswer.Vote mark
+      → (last_vote facts choice.key choice.version choice.tx ≡ None) × (is_finished facts choice.tx ≡ false)
   vote-after (Some outcome) e = absurd (cc)
   vote-after None e = vote-by (is_finished facts choice.tx) (vote_of facts choice.key choice.version choice.tx) refl refl e
 
   pub new_vote : on_propose cluster facts choice ≡ ProposeAnswer.Vote mark → IsNews facts (vote_fact choice mark)
   new_vote e =
-      let voted = vote-after (outcome_kept facts choice.tx) e in
-      let none : value_of (votes_of facts choice.key choice.version fast_ballot) choice.tx ≡ None = unvoted facts choice.key choice.version choice.tx fast_ballot voted in
-      record { promised = refl; voted = rw none refl; heard = refl; no_floor = refl }
+      let new = vote-after (outcome_kept facts choice.tx) e in
+      let none : value_of (votes_of facts choice.key choice.version fast_ballot) choice.tx ≡ None = unvoted facts choice.key choice.version choice.tx fast_ballot new.0 in
+      record { promised = refl; voted = rw none refl; heard = refl; unfinished = rw new.1 refl; marked = own-offer choice mark; no_floor = refl }

@@ -4,7 +4,7 @@ use Rattle.mdcc_base.specs.Unless.{GivesUnless}
 use Rattle.mdcc_base.specs.declared.identifiers.Ballot.{Ballot}
 use Rattle.mdcc_base.specs.declared.identifiers.TxId.{TxId}
 use Rattle.mdcc_base.specs.declared.key.Key.{Key}
-use Rattle.mdcc_facts.specs.Adding.{is_heard_before, is_promised_before, is_voted_before}
+use Rattle.mdcc_facts.specs.Adding.{is_heard_before, is_promised_before, is_voted_before, offers_unmarked, tells_of_finished}
 use Rattle.mdcc_def_messages.specs.Lengths.{fact_length}
 use Rattle.mdcc_def_messages.specs.WellFormed.{IsWellFormedFact}
 use Rattle.mdcc_def_messages.specs.declared.facts.Fact.{Fact}
@@ -93,11 +93,13 @@ abbrev pub volatile_kept : Volatile → Result NodeStep StepFault → Volatile
 volatile_kept volatile (Ok step) = kept_by volatile step.after step.fact
 volatile_kept volatile (Err fault) = volatile
 
--- a fact says nothing a second time, and sets no floor
+-- a fact says nothing a second time and nothing of a finished transaction, offers only what it marks, and sets no floor
 pub record IsNews (facts : List Fact) (fact : Fact) : Type 0 where
   pub promised : is_promised_before facts fact ≡ false
   pub voted : is_voted_before facts fact ≡ false
   pub heard : is_heard_before facts fact ≡ false
+  pub unfinished : tells_of_finished facts fact ≡ false
+  pub marked : offers_unmarked fact ≡ false
   pub no_floor : is_floor fact ≡ false
 
 -- a planned fact is news, and no boot

@@ -66,7 +66,7 @@ extended_set size cells at cell within =
 
 -- ---- lengths
 
-abbrev no_length : Option ℕ
+abbrev pub no_length : Option ℕ
 no_length = None
 
 none-at : (n i : ℕ) → get_or (replicate n no_length) i None ≡ None

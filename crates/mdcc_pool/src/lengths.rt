@@ -63,4 +63,12 @@ impl Lengths {
         }
         self.lens[at as usize] = len;
     }
+
+    /// No length at any cell. It takes no memory and gives none back.
+    #[tactic(auto, using(crate::proofs::Fresh::lens_length))]
+    pub(crate) fn clear(&mut self)
+        ensures { self.new ≡ replicate (length self.old) None }
+    {
+        self.lens.clear();
+    }
 }

@@ -145,4 +145,14 @@ impl CellPool {
         self.spare += count as u32;
         self.lens.set(ticket.first, None);
     }
+
+    /// Holds nothing any more, so that all cells are spare. It takes no memory and gives none back.
+    pub fn clear(&mut self)
+        ensures { self.new ≡ record { spare = length self.old.held; held = replicate (length self.old.held) None } }
+    {
+        self.cells.clear();
+        self.lens.clear();
+        self.free = 0;
+        self.spare = self.cells.size();
+    }
 }

@@ -69,6 +69,15 @@ impl Region {
         }
         self.cells[at as usize] = cell;
     }
+
+    /// Each cell leads to the one after it again. It takes no memory and gives none back.
+    #[tactic(auto, using(crate::proofs::Fresh::extended_length))]
+    pub(crate) fn clear(&mut self)
+        ensures { self.new ≡ fresh_cells 0 (length self.old) }
+    {
+        self.cells.clear();
+    }
+
     /// Writes at most 60 bytes into a cell, and gives the cell after it.
     pub(crate) fn fill(&mut self, at: u32, bytes: &[u8]) -> u32
         requires cell { at < length self.old }

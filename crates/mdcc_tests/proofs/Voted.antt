@@ -21,17 +21,19 @@ none_pass p (x ∷ xs) h =
       | inr fails ↦ rw fails (none_pass p xs (let rest : 0 + number_of p xs ≡ 0 = rw fails at h in omega (arith, rest)))
     ]
 
--- where one or the other is never so, neither is the first
-neither : {X : Type 0} (p q : X → Bool) (xs : List X) → list_any (λ x. p x || q x) xs ≡ false → list_any p xs ≡ false
-neither p q [] h = refl
+-- where one or the other is never so, neither is
+neither : {X : Type 0} (p q : X → Bool) (xs : List X) → list_any (λ x. p x || q x) xs ≡ false → (list_any p xs ≡ false) × (list_any q xs ≡ false)
+neither p q [] h = (refl, refl)
 neither p q (x ∷ xs) h =
     let parts = or_parts (p x || q x) (list_any (λ x. p x || q x) xs) h in
-    rw (or_parts (p x) (q x) parts.0).0 (neither p q xs parts.1)
+    let first = or_parts (p x) (q x) parts.0 in
+    let rest = neither p q xs parts.1 in
+    (rw first.0 rest.0, rw first.1 rest.1)
 
-pub none_voted : (facts : List Fact) (key : Key) (version : ℕ) (ballot : Ballot) (options : Options) (count : ℕ)
+pub none_past : (facts : List Fact) (key : Key) (version : ℕ) (ballot : Ballot) (options : Options) (count : ℕ)
     → count ≡ count_past facts key version ballot options → (count == 0) ≡ true
-    → list_any (λ e. is_some (value_of (votes_of facts key version ballot) e.0)) options ≡ false
-none_voted facts key version ballot options count is h =
+    → (list_any (λ e. is_some (value_of (votes_of facts key version ballot) e.0)) options ≡ false) × (list_any (λ e. is_finished facts e.0) options ≡ false)
+none_past facts key version ballot options count is h =
     let zero : count ≡ 0 = grind (arith, nat_tests) in
     neither (λ e. is_some (value_of (votes_of facts key version ballot) e.0)) (λ e. is_finished facts e.0) options
     (none_pass (λ e. is_past_mark facts key version ballot e.0) options (sym is ∙ zero))

@@ -1,6 +1,8 @@
 //! Adding facts to a store where nothing else keeps them from being said twice.
-ghost use Rattle.mdcc_facts.specs.Adding.{MayBeAdded};
-ghost use Rattle.mdcc_def_protocol.specs.Facts.{votes_of};
+ghost use Rattle.mdcc_facts.specs.Adding.{MayBeAdded, offers_unmarked};
+ghost use Rattle.mdcc_base.specs.declared.identifiers.Ballot.{Ballot as ABallot};
+ghost use Rattle.mdcc_base.specs.declared.key.Key.{Key as AKey};
+ghost use Rattle.mdcc_def_protocol.specs.Facts.{is_finished, votes_of};
 ghost use Rattle.mdcc_def_messages.specs.declared.facts.Fact.{Fact as AFact};
 ghost use Rattle.mdcc_struct.specs.Maps.{value_of};
 ghost use Rattle.std.specs.List.{list_any};
@@ -9,13 +11,14 @@ ghost use Rattle.mdcc_def_messages.specs.Lengths.{fact_length};
 ghost use Rattle.mdcc_def_messages.specs.Spelling.{fact_bytes};
 ghost use Rattle.mdcc_def_messages.specs.WellFormed.{IsWellFormedFact};
 ghost use Rattle.mdcc_theorem_encoding.specs.Laws.{AreBytes};
-ghost use Rattle.std.specs.Prelude.{◌≡◌, ◌≤◌, ◌∷◌, IfSome, IsTrue, List, OnOk, false, is_some};
+ghost use Rattle.std.specs.Prelude.{◌≡◌, ◌≤◌, ◌∷◌, ℕ, IfSome, IsTrue, List, OnOk, false, is_some};
 ghost use Rattle.std.specs.Bool.{OnTrue};
 
 use mdcc_base::{Ballot, Key};
 use mdcc_facts::{Fact, FactStore, StoreFault};
 use mdcc_facts_listed::ListFacts;
 use mdcc_journal::{decode_fact, encode_fact};
+use mdcc_option::Choice;
 use mdcc_struct::Options;
 use mdcc_theorem_encoding::facts::{facts_have_one_spelling, facts_read_are_well_formed};
 use mdcc_theorem_encoding::sizes::lengths_are_exact;
@@ -30,10 +33,26 @@ fn are_new<S: FactStore>(
     ballot: Ballot,
     options: &Options,
 ) -> bool
-    ensures { (facts : List AFact) → S.stands store.now facts → IsTrue result
+    ensures unvoted { (facts : List AFact) → S.stands store.now facts → IsTrue result
         → list_any (λ e. is_some (value_of (votes_of facts key.now version ballot) e.0)) options.now ≡ false }
+    ensures unfinished { (facts : List AFact) → S.stands store.now facts → IsTrue result
+        → list_any (λ e. is_finished facts e.0) options.now ≡ false }
 {
     store.count_past(key, version, ballot, options) == 0
+}
+
+// Whether a vote with these marks offers only a choice of a transaction that it marks.
+fn marks_offer(options: &Options, offered: &Option<Choice>) -> bool
+    ensures { (key : AKey) (version : ℕ) (ballot : ABallot) → IsTrue result
+        → offers_unmarked (AFact.Voted key version ballot options.now offered.now) ≡ false }
+{
+    match offered {
+        None => true,
+        Some(choice) => match options.mark_of(choice.tx) {
+            Some(_) => true,
+            None => false,
+        },
+    }
 }
 
 // Whether the lists of the fact are no longer than their counts can say.
@@ -88,7 +107,8 @@ pub fn reread(alloc: Global, fact: &Fact) -> Option<Fact>
     }
 }
 
-// Whether the fact says nothing a second time.
+// Whether the fact says nothing a second time and nothing of a finished transaction, and offers what
+// it marks.
 fn is_news<S: FactStore>(store: &S, fact: &Fact) -> bool
     requires well_formed { IsWellFormedFact fact.now }
     requires short { fact_length fact.now ≤ 2097152 }
@@ -107,8 +127,8 @@ fn is_news<S: FactStore>(store: &S, fact: &Fact) -> bool
             version,
             ballot,
             options,
-            offered: _,
-        } => are_new(store, key, *version, *ballot, options),
+            offered,
+        } => are_new(store, key, *version, *ballot, options) && marks_offer(options, offered),
         Fact::Heard { tx, outcome: _ } => !store.is_settled(*tx),
         Fact::Adopted {
             key: _,
