@@ -1,7 +1,9 @@
 //! What a store of facts promises.
-ghost use Rattle.std.specs.Prelude.{◌≡◌, ◌≤◌, ◌+◌, ◌∷◌, ℕ, IfOk, IsTrue, List, OnErr, OnOk, true};
+ghost use Rattle.std.specs.Prelude.{◌≡◌, ◌≤◌, ◌-◌, ◌∷◌, ℕ, IfOk, IsTrue, List, OnErr, OnOk, true};
 ghost use Rattle.mdcc_base.specs.Unless.{GivesUnless};
+ghost use Rattle.mdcc_def_messages.specs.Lengths.{cells_needed};
 ghost use Rattle.mdcc_def_messages.specs.declared.facts.Fact.{Fact as AFact};
+ghost use Rattle.mdcc_def_protocol.specs.Cells.{cells_held};
 ghost use Rattle.mdcc_def_protocol.specs.Facts.{base_of, choice_known, current_of, epoch_of, executed_of, is_finished, is_heard, is_settled, last_ballot, outcome_kept, promise_of, promised_through, shown_of, unresolved_of, vote_of};
 ghost use Rattle.mdcc_def_protocol.specs.News.{is_crowding};
 ghost use Rattle.mdcc_def_protocol.specs.Stores.{delta_of, ended_of, entries_at, load_at, mark_after, mark_below, unresolved_at};
@@ -22,20 +24,16 @@ pub trait FactStore {
     /// The lists of facts, the newest first, for which it stands.
     ghost stands: { Self → List AFact → Type 0 };
 
-    /// How many cells are spare.
-    ghost room: { Self → ℕ };
+    /// How many cells it has.
+    ghost cells: { Self → ℕ };
 
-    /// How many cells a fact needs.
-    ghost cells_for: { Self → AFact → ℕ };
-
-    /// Adds a fact.
+    /// Adds a fact. It needs cells for the whole of it before anything is given back for it.
     fn add(&mut self, fact: &Fact) -> Result<(), StoreFault>
         requires { (facts : List AFact) → stands self.old facts → MayBeAdded facts fact.now }
-        ensures answer { (facts : List AFact) → stands self.old facts → GivesUnless is_store_memory result (add_result (room self.old) (cells_for self.old fact.now) facts fact.now) }
+        ensures answer { (facts : List AFact) → stands self.old facts → GivesUnless is_store_memory result (add_result (cells self.old - cells_held facts) (cells_needed fact.now) facts fact.now) }
         ensures ok { (facts : List AFact) → stands self.old facts → OnOk result (stands self.new (fact.now ∷ facts)) }
-        ensures used { OnOk result (room self.new + cells_for self.old fact.now ≡ room self.old) }
         ensures err { (facts : List AFact) → stands self.old facts → OnErr result (stands self.new facts) }
-        ensures left { OnErr result (room self.new ≡ room self.old) };
+        ensures cells { cells self.new ≡ cells self.old };
 
     /// The greatest ballot that was promised for the instance, or voted at in it.
     fn promise(&self, key: &Key, version: u64) -> Ballot
@@ -109,9 +107,9 @@ pub trait FactStore {
         ensures { (facts : List AFact) → stands self.now facts → current_of facts key.now ≤ version → result ≡ load_at facts key.now version seen.now };
 
     /// How many marks accept and how many reject in an instance at the fast ballot, each at most
-    /// 2^32 - 1.
+    /// 2^32 - 1. Below the version that is held nothing is promised of them.
     fn entries(&self, key: &Key, version: u64) -> (u32, u32)
-        ensures { (facts : List AFact) → stands self.now facts → result ≡ entries_at facts key.now version };
+        ensures { (facts : List AFact) → stands self.now facts → current_of facts key.now ≤ version → result ≡ entries_at facts key.now version };
 
     /// The mark at a place, from 0, of the votes at the greatest ballot below another one, with
     /// that ballot. There is none below the fast ballot.
@@ -160,7 +158,7 @@ pub trait FactStore {
     fn epoch(&self) -> u32
         ensures { (facts : List AFact) → stands self.now facts → result ≡ epoch_of facts };
 
-    /// How many cells are spare.
-    fn spare(&self) -> u64
-        ensures { result ≡ room self.now };
+    /// How many cells it has, those that facts hold among them.
+    fn cells(&self) -> u64
+        ensures { result ≡ cells self.now };
 }
