@@ -106,10 +106,10 @@ pub trait FactStore {
     fn load(&self, key: &Key, version: u64, seen: &[TxId]) -> Load
         ensures { (facts : List AFact) → stands self.now facts → current_of facts key.now ≤ version → result ≡ load_at facts key.now version seen.now };
 
-    /// How many marks accept and how many reject in an instance at the fast ballot, each at most
-    /// 2^32 - 1. Below the version that is held nothing is promised of them.
+    /// How many marks that are shown accept and how many reject in an instance at the fast ballot,
+    /// each at most 2^32 - 1.
     fn entries(&self, key: &Key, version: u64) -> (u32, u32)
-        ensures { (facts : List AFact) → stands self.now facts → current_of facts key.now ≤ version → result ≡ entries_at facts key.now version };
+        ensures { (facts : List AFact) → stands self.now facts → result ≡ entries_at facts key.now version };
 
     /// The mark at a place, from 0, of the votes at the greatest ballot below another one, with
     /// that ballot. There is none below the fast ballot.

@@ -80,7 +80,7 @@ module _ (rest facts : List Fact) (is : IsRest rest facts) (once : are_heard_onc
   needed-alike choice =
       ap (λ n. if is_write choice.update then next_version choice.version == n else nat_le n choice.version) (current-stays rest facts choice.key is once)
 
-  past-alike : (o : Option Outcome) → is_past rest o ≡ is_past facts o
+  pub past-alike : (o : Option Outcome) → is_past rest o ≡ is_past facts o
   past-alike None = refl
   past-alike (Some Outcome.Abort) = refl
   past-alike (Some (Outcome.Commit choices)) = ap (λ (test : Choice → Bool). not (list_any test choices)) (fun_ext needed-alike)
@@ -138,7 +138,7 @@ module _ (rest facts : List Fact) (is : IsRest rest facts) (once : are_heard_onc
       by idle (Some outcome) some =
           kept-same tx (some ∙ sym (heard-first facts rest tx outcome (rest-first facts rest facts (first-heard facts once) is) some))
 
-  idle-left : (tx : TxId) → is_idle rest tx ≡ (is_finished facts tx && is_past facts (heard_of rest tx) && not (list_any (shows_mark facts tx) rest))
+  pub idle-left : (tx : TxId) → is_idle rest tx ≡ (is_finished facts tx && is_past facts (heard_of rest tx) && not (list_any (shows_mark facts tx) rest))
   idle-left tx =
       ap (λ b. b && is_past rest (heard_of rest tx) && not (list_any (shows_mark rest tx) rest)) (finished-stays rest facts tx is)
       ∙ ap (λ b. is_finished facts tx && b && not (list_any (shows_mark rest tx) rest)) (past-alike (heard_of rest tx))

@@ -57,7 +57,7 @@ module _ {X : Type 0} (keep : TxId → Bool) where
     | inr below ↦ let rest : next last xs ≡ Some e = rw below at found in found-above t last xs e h.1 rest
   ]
 
-  next-none : (last : Option TxId) (m : TxMap X) → next last m ≡ None → next last (only keep m) ≡ None
+  pub next-none : (last : Option TxId) (m : TxMap X) → next last m ≡ None → next last (only keep m) ≡ None
   next-none last [] found = refl
   next-none last (x ∷ xs) found = elim (cases_Bool (is_above last x.0)) [
     | inl above ↦ absurd (let bad : Some x ≡ None = rw above at found in cc)
@@ -69,7 +69,7 @@ module _ {X : Type 0} (keep : TxId → Bool) where
         ]
   ]
 
-  next-kept : (last : Option TxId) (m : TxMap X) (e : TxId × X) → next last m ≡ Some e → keep e.0 ≡ true → next last (only keep m) ≡ Some e
+  pub next-kept : (last : Option TxId) (m : TxMap X) (e : TxId × X) → next last m ≡ Some e → keep e.0 ≡ true → next last (only keep m) ≡ Some e
   next-kept last [] e found kept = absurd (cc)
   next-kept last (x ∷ xs) e found kept = elim (cases_Bool (is_above last x.0)) [
     | inl above ↦
@@ -85,7 +85,7 @@ module _ {X : Type 0} (keep : TxId → Bool) where
         ]
   ]
 
-  next-left : (last : Option TxId) (m : TxMap X) (e : TxId × X) → are_ascending m ≡ true → next last m ≡ Some e → keep e.0 ≡ false
+  pub next-left : (last : Option TxId) (m : TxMap X) (e : TxId × X) → are_ascending m ≡ true → next last m ≡ Some e → keep e.0 ≡ false
       → next last (only keep m) ≡ next (Some e.0) (only keep m)
   next-left last [] e up found gone = absurd (cc)
   next-left last (x ∷ xs) e up found gone = elim (cases_Bool (is_above last x.0)) [

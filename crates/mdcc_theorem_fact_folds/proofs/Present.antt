@@ -197,7 +197,7 @@ module _ (keep : Fact → Bool) (key : Key) (version : ℕ) (covers : Covers kee
       ∙ joined-chain (marks_voted key version ballot) keep (λ fact left. no_marks key version ballot fact (left_out keep (is_vote_in key version) covers fact left)) facts)
       ∙ sym (least-folded (marks_voted key version ballot) (is_next_tx each_kept last) None (filter keep facts))
 
-  after-ballot : (ballot : Ballot) (last : Option TxId)
+  pub after-ballot : (ballot : Ballot) (last : Option TxId)
       → beside ballot (find (λ e. is_above last e.0) (votes_of facts key version ballot))
       ≡ option_and_then (λ tx. marked ballot tx (fold (older_mark key version ballot tx) None (filter keep facts)))
       (fold (least_above key version ballot last) None (filter keep facts))
