@@ -1,0 +1,4 @@
+pub mod Counted
+pub mod Floored
+pub mod Held
+pub mod Origins
