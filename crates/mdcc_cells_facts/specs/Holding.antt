@@ -1,5 +1,5 @@
 -- Facts whose encodings are stored, the newest first.
-use Rattle.std.specs.Prelude.{◌≡◌, ◌++◌, ◌∷◌, [], List, ⊤, ℕ}
+use Rattle.std.specs.Prelude.{◌≡◌, ◌∷◌, [], List, ⊤, ℕ}
 use Rattle.mdcc_def_messages.specs.Spelling.{encodings_of}
 use Rattle.mdcc_def_messages.specs.WellFormed.{IsWellFormedFact}
 use Rattle.mdcc_def_messages.specs.declared.facts.Fact.{Fact}

@@ -87,6 +87,13 @@ impl FactCells {
         self.pool.spare()
     }
 
+    /// How many cells there are, spare ones and others.
+    pub fn cells(&self) -> u32
+        ensures { result ≡ self.now.spare + cells_taken self.now.encodings }
+    {
+        self.pool.size()
+    }
+
     /// Whether the cells of a fact are spare.
     pub fn room_for(&self, fact: &Fact) -> Result<(), StoreFault>
         requires { IsWellFormedFact fact.now }
