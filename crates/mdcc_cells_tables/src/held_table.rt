@@ -183,4 +183,13 @@ impl HeldTable {
     {
         self.raise_by(fact, number);
     }
+
+    /// No versions again, with the same room. It takes no memory and gives none back.
+    pub fn clear(&mut self)
+        ensures value { self.new ≡ no_versions self.old.keys.room }
+        ensures holds { HoldsVersions self.new [] }
+    {
+        self.keys.clear();
+        self.held.clear();
+    }
 }

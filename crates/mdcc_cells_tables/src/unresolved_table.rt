@@ -134,4 +134,12 @@ impl UnresolvedTable {
     {
         self.update(fact, number, test);
     }
+
+    /// No transactions again, with the same room. It takes no memory and gives none back.
+    pub fn clear(&mut self)
+        ensures value { self.new ≡ record { room = self.old.room; entries = [] } }
+        ensures lists { ListsUnresolved self.new.entries [] }
+    {
+        self.numbers.clear();
+    }
 }
