@@ -122,6 +122,14 @@ impl OutcomeIndex {
         self.enter(fact, number);
     }
 
+    /// No outcomes again, with the same room. It takes no memory and gives none back.
+    pub fn clear(&mut self)
+        ensures { self.new ≡ record { txs = record { room = self.old.txs.room; keys = [] }; numbers = [] } }
+    {
+        self.txs.clear();
+        self.numbers.clear();
+    }
+
     // The number of the oldest fact that says how the transaction ended.
     fn number_of(&self, tx: &TxId) -> Option<u32>
         ensures value { result ≡ number_found self.now tx.now }

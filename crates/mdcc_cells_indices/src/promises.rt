@@ -162,6 +162,14 @@ impl Promises {
         self.enter(fact);
     }
 
+    /// No promise again, with the same room. It takes no memory and gives none back.
+    pub fn clear(&mut self)
+        ensures { self.new ≡ record { keys = record { room = self.old.keys.room; keys = [] }; ranges = [] } }
+    {
+        self.keys.clear();
+        self.ranges.clear();
+    }
+
     /// The high end of the oldest promise of a key of this ballot that begins at this version.
     pub fn promised(&self, key: &Key, version: u64, ballot: Ballot) -> Option<u64>
         ensures { (facts : List AFact) → ArePromised self.now facts → result ≡ promised_through facts key.now version ballot }

@@ -111,6 +111,16 @@ impl Tallies {
         })
     }
 
+    /// No vote again, with the same room. It takes no memory and gives none back.
+    #[tactic(auto, using(crate::proofs::Tallying::tallies_none))]
+    pub fn clear(&mut self)
+        ensures tallies { HoldsTallies self.new [] }
+        ensures value { self.new ≡ record { instances = record { room = self.old.instances.room; keys = [] }; tallies = [] } }
+    {
+        self.instances.clear();
+        self.tallies.clear();
+    }
+
     /// The tally of an instance.
     pub fn tally(&self, instance: &(Key, u64)) -> Tally
         ensures { result ≡ tally_in self.now instance.now }
