@@ -1,6 +1,6 @@
 -- A store that has just been made.
 use Rattle.std.proofs.Common.{◌≡◌, ◌*◌, ℕ, [], length, refl, ap, arith}
-use Rattle.mdcc_cells_facts.specs.Stored.{Stored}
+use Rattle.mdcc_cells_facts.specs.Stored.{Stored, cells_taken}
 use Rattle.mdcc_cells_chains.specs.Unresolved.{Numbered}
 use Rattle.mdcc_cells_tables.specs.HeldVersions.{HoldsVersions, Versions, no_versions}
 use Rattle.mdcc_cells_tables.specs.UnresolvedNumbers.{ListsUnresolved}
@@ -9,7 +9,7 @@ use Rattle.mdcc_cells_indices.specs.Heard.{HeardTxs}
 use Rattle.mdcc_cells_indices.specs.Promises.{Kept}
 use Rattle.mdcc_cells_indices.specs.Tallies.{HoldsTallies, Tallied}
 use Rattle.mdcc_theorem_fact_folds.proofs.Kept.{none-added}
-use Rattle.mdcc_index.specs.Stores.{HasStoreRoom, Represents, store_of}
+use Rattle.mdcc_index.specs.Stores.{HasSize, HasStoreRoom, Represents, cells_in_all, store_of}
 
 module _ (cells entries : ℕ) (stored : Stored) (outcomes : HeardTxs) (promises : Kept) (instances active : Entries) (tallies : Tallied) (held : Versions) (unresolved : Numbered)
     (cells-are : stored ≡ record { spare = cells; encodings = [] })
@@ -44,4 +44,18 @@ module _ (cells entries : ℕ) (stored : Stored) (outcomes : HeardTxs) (promises
     tallies = omega (arith, ap (λ t. length t.instances.keys) tallies-are, ap (λ t. t.instances.room) tallies-are, ap (λ c. c.spare) cells-are);
     held = omega (arith, ap (λ h. length h.keys.keys) held-are, ap (λ h. h.keys.room) held-are, ap (λ c. c.spare) cells-are, twice);
     unresolved = omega (arith, ap (λ u. length u.entries) unresolved-are, ap (λ u. u.room) unresolved-are, ap (λ c. c.spare) cells-are, twice);
+  }
+
+  pub cells-all : cells_in_all (store_of stored outcomes promises instances active tallies held unresolved 0) ≡ cells
+  cells-all = omega (arith, ap (λ c. c.spare) cells-are, ap (λ c. cells_taken c.encodings) cells-are)
+
+  pub size-for-all : entries ≡ cells * 2 → HasSize (store_of stored outcomes promises instances active tallies held unresolved 0)
+  size-for-all twice = record {
+    outcomes = omega (arith, cells-all, ap (λ o. o.txs.room) outcomes-are);
+    promises = omega (arith, cells-all, ap (λ p. p.keys.room) promises-are);
+    instances = omega (arith, cells-all, ap (λ i. i.room) instances-are, twice);
+    active = omega (arith, cells-all, ap (λ i. i.room) active-are, twice);
+    tallies = omega (arith, cells-all, ap (λ t. t.instances.room) tallies-are);
+    held = omega (arith, cells-all, ap (λ h. h.keys.room) held-are, twice);
+    unresolved = omega (arith, cells-all, ap (λ u. u.room) unresolved-are, twice);
   }

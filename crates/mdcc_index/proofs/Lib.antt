@@ -2,8 +2,10 @@ pub mod Active
 pub mod Adding
 pub mod Amounts
 pub mod Barred
+pub mod Cleared
 pub mod Marked
 pub mod Reading
+pub mod Spare
 pub mod Stepped
 pub mod Tied
 pub mod Unvoted

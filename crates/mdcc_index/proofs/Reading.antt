@@ -1,7 +1,7 @@
 -- What is read of the fact of a number.
 use Rattle.std.proofs.Common.{◌≡◌, ◌<◌, ◌+◌, ℕ, zero, suc, Bool, true, false, List, [], ◌∷◌, Option, Some, None, get_or, length, map, option_map, refl, sym, ap, ◌∙◌, arith, inl, inr}
 use Rattle.std.specs.List.{filter, list_all, list_any}
-use Rattle.std.specs.Prelude.{◌==◌, ◌||◌}
+use Rattle.std.specs.Prelude.{Err, IfOk, Ok, Result, ◌==◌, ◌||◌}
 use Rattle.std.proofs.lemmas.Bool.{and_parts, cases_Bool}
 use Rattle.std.proofs.lemmas.Bool.Decides.{nat_tests}
 use Rattle.mdcc_base.specs.declared.identifiers.TxId.{TxId}
@@ -29,6 +29,10 @@ entry-there (fact ∷ facts) number within = elim (cases_Bool (number == length 
   where
     below : (f : Fact) (fs : List Fact) (n : ℕ) → n < length (f ∷ fs) → (n == length fs) ≡ false → n < length fs
     below f fs n within there = let few : n < length fs + 1 = omega arith in grind (arith, nat_tests)
+
+pub found-there : {E : Type 0} (r : Result Fact E) (facts : List Fact) (number : ℕ) → number < length facts → IfOk r (λ found. found ≡ fact_at facts number) → IfOk r (λ found. entry_at facts number ≡ Some found)
+found-there (Ok found) facts number within is = entry-there facts number within ∙ ap Some (sym is)
+found-there (Err e) facts number within is = tt
 
 -- one of the choices passes
 pub any-at : (test : Key → Bool) (choices : List Choice) (i : ℕ) (choice : Choice) → i < length choices → choice ≡ get_or choices i choice → test choice.key ≡ true

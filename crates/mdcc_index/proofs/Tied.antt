@@ -8,14 +8,14 @@ use Rattle.mdcc_cells_indices.specs.Entries.{AreBelow, is_any}
 use Rattle.mdcc_cells_indices.specs.Heard.{AreNumbersBelow, heard_numbers}
 use Rattle.mdcc_cells_indices.proofs.Endings.{below-by}
 use Rattle.mdcc_cells_indices.proofs.Entered.{entries-below, held-length}
-use Rattle.mdcc_index.specs.Stores.{Represents, Store}
+use Rattle.mdcc_index.specs.Stores.{HasFactsInCells, Store}
 
 numbers-below : (facts : List Fact) → AreNumbersBelow (length facts) (heard_numbers facts)
 numbers-below [] i within = absurd (omega arith)
 numbers-below (fact ∷ facts) i within =
     let below = below-by fact (heard_numbers facts) (length facts) (numbers-below facts) i within in omega (arith, below)
 
-module _ (store : Store) (facts : List Fact) (kept : Represents store facts) where
+module _ (store : Store) (facts : List Fact) (kept : HasFactsInCells store facts) where
   pub outcomes-below : AreNumbersBelow (length store.cells.encodings) store.outcomes.numbers
   outcomes-below =
       subst (λ bound. AreNumbersBelow bound store.outcomes.numbers) (sym (held-length store.cells.encodings facts kept.cells))

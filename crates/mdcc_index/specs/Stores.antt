@@ -5,8 +5,9 @@ use Rattle.mdcc_base.specs.declared.key.Key.{Key}
 use Rattle.mdcc_def_messages.specs.declared.facts.Fact.{Fact}
 use Rattle.mdcc_def_protocol.specs.Facts.{epoch_of, executed_of}
 use Rattle.mdcc_cells_chains.specs.Unresolved.{Numbered}
+use Rattle.mdcc_facts.specs.Adding.{MayBeAdded}
 use Rattle.mdcc_cells_facts.specs.Holding.{HoldsEncodings}
-use Rattle.mdcc_cells_facts.specs.Stored.{Stored}
+use Rattle.mdcc_cells_facts.specs.Stored.{Stored, cells_taken}
 use Rattle.mdcc_theorem_fact_folds.specs.Added.{AreAdded}
 use Rattle.mdcc_cells_tables.specs.HeldVersions.{HoldsVersions, Versions}
 use Rattle.mdcc_cells_tables.specs.UnresolvedNumbers.{ListsUnresolved}
@@ -46,6 +47,19 @@ pub record Represents (store : Store) (facts : List Fact) : Type 0 where
   pub added : AreAdded facts
   pub few : (key : Key) → length (executed_of facts key) ≤ 64
 
+-- the same, but that any number of deltas may be executed
+pub record HasFactsInCells (store : Store) (facts : List Fact) : Type 0 where
+  pub cells : HoldsEncodings store.cells.encodings facts
+  pub outcomes : AreHeard store.outcomes facts
+  pub promises : ArePromised store.promises facts
+  pub instances : store.instances.entries ≡ entries_of_facts facts
+  pub active : store.active.entries ≡ entries_kept is_active facts
+  pub tallies : HoldsTallies store.tallies facts
+  pub held : HoldsVersions store.held facts
+  pub unresolved : ListsUnresolved store.unresolved.entries facts
+  pub epoch : store.epoch ≡ epoch_of facts
+  pub added : AreAdded facts
+
 -- for each spare cell there is room for what a fact may bring
 pub record HasStoreRoom (store : Store) : Type 0 where
   pub outcomes : length store.outcomes.txs.keys + store.cells.spare ≤ store.outcomes.txs.room
@@ -56,11 +70,37 @@ pub record HasStoreRoom (store : Store) : Type 0 where
   pub held : length store.held.keys.keys + 2 * store.cells.spare ≤ store.held.keys.room
   pub unresolved : length store.unresolved.entries + 2 * store.cells.spare ≤ store.unresolved.room
 
--- it represents some facts, and has room for more
+-- the cells, spare ones and others
+abbrev pub cells_in_all : Store → ℕ
+cells_in_all store = store.cells.spare + cells_taken store.cells.encodings
+
+-- for each cell there is room for what a fact may bring
+pub record HasSize (store : Store) : Type 0 where
+  pub outcomes : cells_in_all store ≤ store.outcomes.txs.room
+  pub promises : cells_in_all store ≤ store.promises.keys.room
+  pub instances : 2 * cells_in_all store ≤ store.instances.room
+  pub active : 2 * cells_in_all store ≤ store.active.room
+  pub tallies : cells_in_all store ≤ store.tallies.instances.room
+  pub held : 2 * cells_in_all store ≤ store.held.keys.room
+  pub unresolved : 2 * cells_in_all store ≤ store.unresolved.room
+
+-- it has some facts, and room for more
 pub record IsStore (store : Store) : Type 0 where
   pub facts : List Fact
-  pub represented : Represents store facts
+  pub has : HasFactsInCells store facts
   pub room : HasStoreRoom store
+  pub size : HasSize store
+
+-- it has some facts, to which this one may be added
+pub record CanTake (store : Store) (fact : Fact) : Type 0 where
+  pub facts : List Fact
+  pub has : HasFactsInCells store facts
+  pub may : MayBeAdded facts fact
+
+-- it represents some facts
+pub record IsRepresented (store : Store) : Type 0 where
+  pub facts : List Fact
+  pub represented : Represents store facts
 
 -- whether a transaction was aborted, by the fact that is found
 abbrev pub is_abort_ended : Option Bool → Bool

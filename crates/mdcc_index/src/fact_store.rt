@@ -9,34 +9,31 @@ use mdcc_struct::Options;
 use std::alloc::Global;
 
 impl FactStore for PoolFacts {
-    ghost use Rattle.mdcc_def_messages.specs.Lengths.{cells_needed};
-    ghost use Rattle.mdcc_index.specs.Stores.{Represents};
+    ghost use Rattle.mdcc_index.specs.Stores.{Represents, cells_in_all};
 
     ghost stands = { Represents };
 
-    ghost room = { λ store. store.cells.spare };
-
-    ghost cells_for = { λ store fact. cells_needed fact };
+    ghost cells = { cells_in_all };
 
     fn add(&mut self, fact: &Fact) -> Result<(), StoreFault> {
         self.add(fact)
     }
 
     fn promise(&self, key: &Key, version: u64) -> Ballot {
-        self.promise(key, version)
+        self.pool.promise(key, version)
     }
 
     fn promised(&self, key: &Key, version: u64, ballot: Ballot) -> Option<u64> {
-        self.promised(key, version, ballot)
+        self.pool.promised(key, version, ballot)
     }
 
     #[tactic(auto, using(mdcc_def_protocol::proofs::Plain::vote_plain))]
     fn vote_of(&self, key: &Key, version: u64, tx: TxId) -> Option<(Ballot, Mark)> {
-        self.vote_of(key, version, tx)
+        self.pool.vote_of(key, version, tx)
     }
 
     fn voted_below(&self, key: &Key, version: u64, below: Ballot) -> Ballot {
-        self.voted_below(key, version, below)
+        self.pool.voted_below(key, version, below)
     }
 
     #[tactic(auto, using(mdcc_def_protocol::proofs::Plain::shown_plain))]
@@ -47,17 +44,17 @@ impl FactStore for PoolFacts {
         version: u64,
         ballot: Ballot,
     ) -> Result<Options, Memory> {
-        self.votes(alloc, key, version, ballot)
+        self.pool.votes(alloc, key, version, ballot)
     }
 
     #[tactic(auto, using(mdcc_facts::proofs::Unfinished::count_plain))]
     fn count_past(&self, key: &Key, version: u64, ballot: Ballot, options: &Options) -> usize {
-        self.count_voted(key, version, ballot, options)
+        self.pool.count_voted(key, version, ballot, options)
     }
 
     #[tactic(auto, using(mdcc_def_protocol::proofs::Plain::settled_plain))]
     fn is_settled(&self, tx: TxId) -> bool {
-        self.is_heard(tx)
+        self.pool.is_heard(tx)
     }
 
     #[tactic(auto, using(mdcc_facts::proofs::Unfinished::heard_plain, mdcc_def_protocol::proofs::Plain::finished_none))]
@@ -67,38 +64,38 @@ impl FactStore for PoolFacts {
 
     #[tactic(auto, using(mdcc_def_protocol::proofs::Plain::ended_plain))]
     fn ended(&self, tx: TxId) -> Option<bool> {
-        self.ended(tx)
+        self.pool.ended(tx)
     }
 
     #[tactic(auto, using(mdcc_def_protocol::proofs::Plain::kept_plain))]
     fn heard(&self, tx: TxId) -> Option<Outcome> {
-        self.heard(tx)
+        self.pool.heard(tx)
     }
 
     fn current(&self, key: &Key) -> u64 {
-        self.current(key)
+        self.pool.current(key)
     }
 
     fn base(&self, key: &Key) -> Option<Item> {
-        self.base(key)
+        self.pool.base(key)
     }
 
     fn executed(&self, key: &Key) -> Seen {
-        self.executed(key)
+        self.pool.executed(key)
     }
 
     fn delta(&self, key: &Key, tx: TxId) -> Option<Delta> {
-        self.delta(key, tx)
+        self.pool.delta(key, tx)
     }
 
     #[tactic(auto, using(mdcc_def_protocol::proofs::Plain::load_plain))]
     fn load(&self, key: &Key, version: u64, seen: &[TxId]) -> Load {
-        self.load(key, version, seen)
+        self.pool.load(key, version, seen)
     }
 
     #[tactic(auto, using(mdcc_def_protocol::proofs::Plain::entries_at_plain))]
     fn entries(&self, key: &Key, version: u64) -> (u32, u32) {
-        self.entries(key, version)
+        self.pool.entries(key, version)
     }
 
     #[tactic(auto, using(mdcc_def_protocol::proofs::Plain::mark_plain))]
@@ -109,7 +106,7 @@ impl FactStore for PoolFacts {
         below: Ballot,
         place: usize,
     ) -> Option<(Ballot, TxId, Mark)> {
-        self.marks(key, version, below, place)
+        self.pool.marks(key, version, below, place)
     }
 
     #[tactic(auto, using(mdcc_def_protocol::proofs::Plain::next_mark_plain))]
@@ -120,38 +117,38 @@ impl FactStore for PoolFacts {
         below: Ballot,
         last: Option<TxId>,
     ) -> Option<(Ballot, TxId, Mark)> {
-        self.mark_after(key, version, below, last)
+        self.pool.mark_after(key, version, below, last)
     }
 
     #[tactic(auto, using(mdcc_def_protocol::proofs::Plain::unresolved_at_plain))]
     fn unresolved(&self, place: usize) -> Option<(TxId, WriteSet)> {
-        self.unresolved(place)
+        self.pool.unresolved(place)
     }
 
     #[tactic(auto, using(mdcc_def_protocol::proofs::Plain::unresolved_plain))]
     fn write_set(&self, tx: TxId) -> Option<WriteSet> {
-        self.write_set(tx)
+        self.pool.write_set(tx)
     }
 
     #[tactic(auto, using(mdcc_def_protocol::proofs::Plain::unresolved_plain))]
     fn unresolved_all(&self, alloc: Global) -> Result<HeapList<(TxId, WriteSet)>, Memory> {
-        self.unresolved_all(alloc)
+        self.pool.unresolved_all(alloc)
     }
 
     #[tactic(auto, using(mdcc_def_protocol::proofs::Plain::choice_plain))]
     fn choice_of(&self, key: &Key, version: u64, tx: TxId) -> Option<Choice> {
-        self.choice_of(key, version, tx)
+        self.pool.choice_of(key, version, tx)
     }
 
     fn would_crowd(&self, fact: &Fact) -> bool {
-        self.would_crowd(fact)
+        self.pool.would_crowd(fact)
     }
 
     fn epoch(&self) -> u32 {
-        self.epoch()
+        self.pool.epoch()
     }
 
-    fn spare(&self) -> u64 {
-        self.spare()
+    fn cells(&self) -> u64 {
+        self.pool.cells()
     }
 }

@@ -10,7 +10,7 @@ ghost use Rattle.mdcc_struct.specs.Maps.{txs_of, value_of};
 ghost use Rattle.mdcc_index.specs.Crowding.{is_key_crowded};
 ghost use Rattle.mdcc_index.specs.Stores.{Represents};
 
-use crate::PoolFacts;
+use crate::FactPool;
 use mdcc_base::{Key, TxId};
 use mdcc_cells_delta_walk::{OlderAmounts, WithDeltas, is_crowded, item_at};
 use mdcc_def_messages::Fact;
@@ -27,7 +27,7 @@ fn delta_by(tx: TxId, found: Option<Amounts>) -> Option<Delta>
     }
 }
 
-impl PoolFacts {
+impl FactPool {
     /// The version that is held.
     pub fn current(&self, key: &Key) -> u64
         ensures { (facts : List AFact) → Represents self.now facts → result ≡ current_of facts key.now }

@@ -1,6 +1,7 @@
 //! Facts in cells, found by what they say.
 #![tactic(auto)]
 
+pub mod fact_pool;
 mod fact_store;
 mod held;
 mod live;
@@ -8,4 +9,5 @@ pub mod pool_facts;
 mod unresolved;
 mod votes;
 
+pub use fact_pool::FactPool;
 pub use pool_facts::PoolFacts;

@@ -4,12 +4,12 @@ ghost use Rattle.mdcc_def_messages.specs.declared.facts.Fact.{Fact as AFact};
 ghost use Rattle.mdcc_def_protocol.specs.Plain.{plain_load_at};
 ghost use Rattle.mdcc_index.specs.Stores.{Represents, is_abort_ended};
 
-use crate::PoolFacts;
+use crate::FactPool;
 use mdcc_base::{Key, TxId};
 use mdcc_cells_delta_walk::{VoidTest, load};
 use mdcc_def_protocol::Load;
 
-impl PoolFacts {
+impl FactPool {
     /// What the live choices of an instance weigh beside a seen set. Counts stop at 2^32 - 1 and
     /// sums at 2^96.
     pub fn load(&self, key: &Key, version: u64, seen: &[TxId]) -> Load
@@ -31,7 +31,7 @@ fn is_abort_ended(ended: Option<bool>) -> bool
     }
 }
 
-impl VoidTest for PoolFacts {
+impl VoidTest for FactPool {
     ghost use Rattle.mdcc_index.specs.Stores.{is_void_told};
 
     ghost void = { is_void_told };

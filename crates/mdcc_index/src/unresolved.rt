@@ -6,13 +6,13 @@ ghost use Rattle.mdcc_struct.specs.Maps.{value_of};
 ghost use Rattle.mdcc_cells_tables.specs.UnresolvedNumbers.{with_write_set, write_set_numbered};
 ghost use Rattle.mdcc_index.specs.Stores.{Represents};
 
-use crate::PoolFacts;
+use crate::FactPool;
 use mdcc_base::{HeapList, Memory, TxId};
 use mdcc_cells_vote_walk::write_set_at;
 use mdcc_option::WriteSet;
 use std::alloc::Global;
 
-impl PoolFacts {
+impl FactPool {
     // The write set of a transaction, from the fact of a number.
     fn write_set_by(&self, tx: TxId, number: u32) -> Option<WriteSet>
         requires { number < length self.now.cells.encodings }
@@ -30,6 +30,13 @@ impl PoolFacts {
             Some(write_set) => Some((entry.0, write_set)),
             None => None,
         }
+    }
+
+    /// How many transactions there are of which a vote holds a choice and whose outcome was not heard.
+    pub fn unresolved_len(&self) -> usize
+        ensures { (facts : List AFact) → Represents self.now facts → result ≡ length (plain_unresolved_of facts) }
+    {
+        self.unresolved.len() as usize
     }
 
     /// The transaction at a place, from 0, of those of which a vote holds a choice and whose

@@ -1,6 +1,6 @@
 //! The votes of an instance.
 ghost use Rattle.std.specs.List.{filter, fold};
-ghost use Rattle.std.specs.Prelude.{◌≡◌, ◌-◌, None, Some, IfOk, List, option_map, true};
+ghost use Rattle.std.specs.Prelude.{◌≡◌, ◌-◌, None, Some, IfOk, List, is_some, option_map, true};
 ghost use Rattle.mdcc_def_messages.specs.declared.facts.Fact.{Fact as AFact};
 ghost use Rattle.mdcc_def_protocol.specs.Facts.{first_choice_voted, last_ballot, last_vote, promise_of, votes_of, write_sets_of};
 ghost use Rattle.mdcc_struct.specs.Maps.{value_of};
@@ -9,10 +9,10 @@ ghost use Rattle.mdcc_def_protocol.specs.Plain.{plain_entries_at, plain_mark_aft
 ghost use Rattle.mdcc_theorem_fact_folds.specs.Chains.{is_of_instance};
 ghost use Rattle.mdcc_theorem_fact_folds.specs.Votes.{least_above, older_mark};
 ghost use Rattle.mdcc_cells_indices.specs.Active.{is_active};
-ghost use Rattle.mdcc_index.specs.Marks.{next_marked};
+ghost use Rattle.mdcc_index.specs.Marks.{next_marked, next_voted};
 ghost use Rattle.mdcc_index.specs.Stores.{Represents};
 
-use crate::PoolFacts;
+use crate::FactPool;
 use mdcc_base::{Ballot, Key, Memory, TxId};
 use mdcc_cells_facts::FactStep;
 use mdcc_cells_indices::ballot_max;
@@ -24,7 +24,7 @@ use mdcc_option::{Choice, Mark};
 use mdcc_struct::Options;
 use std::alloc::Global;
 
-impl PoolFacts {
+impl FactPool {
     // Takes a step at each fact of an instance, from the newest to the oldest.
     pub(crate) fn walk<S: FactStep>(&self, key: &Key, version: u64, state: &mut S)
         ensures { (facts : List AFact) → Represents self.now facts → state.new ≡ fold S.step state.old (filter (is_of_instance key.now version) facts) }
@@ -177,8 +177,15 @@ impl PoolFacts {
         state.found
     }
 
-    // The next mark above a transaction, or the first, of the votes at a ballot.
-    fn next_mark(
+    /// Whether a transaction was voted in an instance at a ballot.
+    pub fn is_voted(&self, key: &Key, version: u64, ballot: Ballot, tx: TxId) -> bool
+        ensures { (facts : List AFact) → Represents self.now facts → result ≡ is_some (value_of (votes_of facts key.now version ballot) tx) }
+    {
+        self.mark_at(key, version, ballot, tx).is_some()
+    }
+
+    // The next mark above a transaction, or the first, of the votes at a ballot, by two walks.
+    fn next_marked(
         &self,
         key: &Key,
         version: u64,
@@ -190,6 +197,20 @@ impl PoolFacts {
         let tx = self.least_above(key, version, ballot, last)?;
         let mark = self.mark_at(key, version, ballot, tx)?;
         Some((ballot, tx, mark))
+    }
+
+    /// The next mark above a transaction, or the first, of the votes in an instance at a ballot, with
+    /// that ballot.
+    pub fn next_mark(
+        &self,
+        key: &Key,
+        version: u64,
+        ballot: Ballot,
+        last: Option<TxId>,
+    ) -> Option<(Ballot, TxId, Mark)>
+        ensures { (facts : List AFact) → Represents self.now facts → result ≡ next_voted facts key.now version ballot last }
+    {
+        self.next_marked(key, version, ballot, last)
     }
 
     /// The next mark above a transaction, or the first, of the votes at the greatest ballot below

@@ -1,5 +1,0 @@
-use Rattle.mdcc_index.proofs.Tied.{outcomes-below}
-use Rattle.mdcc_index.proofs.pool_facts.PoolFacts.heard.Goals as goal
-
-pub heard-requires : goal.heard-requires
-heard-requires c = outcomes-below _ c.self.invariant.facts c.self.invariant.represented
