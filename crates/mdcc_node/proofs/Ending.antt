@@ -85,7 +85,7 @@ module _ (me : ℕ) (facts : List Fact) (volatile : Volatile) (s : ℕ) where
       prepared-adds key version through ballot (promise_of facts key version) (ballot_lt ballot (promise_of facts key version))
 
   -- none of the new marks was voted, or is of a finished transaction
-  HasNonePast : Options → Options → Type 0
+  abbrev HasNonePast : Options → Options → Type 0
   HasNonePast votes marks = (list_any (λ e. is_some (value_of votes e.0)) marks ≡ false) × (list_any (λ e. is_finished facts e.0) marks ≡ false)
 
   abbrev new : Options → Options → Options

@@ -1,11 +1,11 @@
 pub mod Beginning
+pub mod Cells
 pub mod Ending
 pub mod Ends
 pub mod Led
 pub mod Marks
 pub mod Planned
 pub mod Rest
-pub mod Rooms
 pub mod Shown
 pub mod Standing
 pub mod Ticks

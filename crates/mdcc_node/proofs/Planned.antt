@@ -4,13 +4,12 @@ use Rattle.std.specs.Bool.{OnTrue}
 use Rattle.std.specs.Prelude.{OnErr, OnOk, ⊤}
 use Rattle.std.proofs.lemmas.Bool.{cases_Bool}
 use Rattle.mdcc_base.specs.Unless.{GivesUnless}
-use Rattle.mdcc_facts.specs.Adding.{add_result}
 use Rattle.mdcc_def_messages.specs.declared.facts.Fact.{Fact}
 use Rattle.mdcc_def_messages.specs.declared.messages.Envelope.{Envelope}
 use Rattle.mdcc_node.specs.MethodEffects.{closed_if_ended}
 use Rattle.mdcc_node.specs.StepPlans.{FitsFrame, PlanFitsFrame, kept_by, plan_of, planned, sends_after, unless_refused, volatile_kept}
 use Rattle.mdcc_node.specs.Represents.{RepresentsAfter, RepresentsCentre}
-use Rattle.mdcc_node.specs.StepAnswers.{OnMemory, Room, UnlessMemory, step_result, if_added, is_step_memory, step_if, if_plan_added, if_fact_added, with_store}
+use Rattle.mdcc_node.specs.StepAnswers.{OnMemory, UnlessMemory, step_result, if_added, is_step_memory, step_if, store_result, if_plan_added, if_fact_added, with_store}
 use Rattle.mdcc_node.specs.declared.node.Node.{Node}
 use Rattle.mdcc_option.specs.declared.cluster.Cluster.{Cluster}
 use Rattle.mdcc_def_protocol.specs.Volatile.{Volatile}
@@ -37,18 +36,18 @@ taken-if : (step : NodeStep) (fact : Fact) (answer : Result (Unit {0}) StoreFaul
 taken-if step fact (Ok done) e = rw e refl
 taken-if step fact (Err fault) e = refl
 
-taken : (room : Room) (facts : List Fact) (step : NodeStep) (fact : Option Fact) → step.fact ≡ fact
-    → step_result (if_fact_added room facts step fact) ≡ if_plan_added room facts (planned step) fact
-taken room facts step None e = rw e refl
-taken room facts step (Some fact) e = taken-if step fact (add_result room.spare (room.needed fact) facts fact) e
+taken : (cells : ℕ) (facts : List Fact) (step : NodeStep) (fact : Option Fact) → step.fact ≡ fact
+    → step_result (if_fact_added cells facts step fact) ≡ if_plan_added cells facts (planned step) fact
+taken cells facts step None e = rw e refl
+taken cells facts step (Some fact) e = taken-if step fact (store_result cells facts fact) e
 
 -- the store takes a planned step as it takes the rule's
-pub plan-given : (room : Room) (facts : List Fact) (plan : Step) (expected : Result NodeStep StepFault) → Ok plan ≡ plan_of expected
-    → step_result (with_store room facts expected) ≡ if_plan_added room facts plan plan.fact
-plan-given room facts plan (Err fault) e = absurd (cc)
-plan-given room facts plan (Ok step) e =
+pub plan-given : (cells : ℕ) (facts : List Fact) (plan : Step) (expected : Result NodeStep StepFault) → Ok plan ≡ plan_of expected
+    → step_result (with_store cells facts expected) ≡ if_plan_added cells facts plan plan.fact
+plan-given cells facts plan (Err fault) e = absurd (cc)
+plan-given cells facts plan (Ok step) e =
     let is : plan ≡ planned step = cc in
-    rw is (taken room facts step step.fact refl)
+    rw is (taken cells facts step step.fact refl)
 
 -- the fact of a planned step is the rule's
 plan-fits-by : (step : NodeStep) (fact : Option Fact) → ((other : Fact) → fact ≡ Some other → FitsFrame other) → PlanFitsFrame fact
@@ -63,10 +62,10 @@ plan-fits plan (Ok step) e h =
     rw is (plan-fits-by step step.fact (λ fact fits. h step fact refl fits))
 
 -- a rule's refusal is the step's
-pub fault-given : (room : Room) (facts : List Fact) (fault : StepFault) (expected : Result NodeStep StepFault)
-    → GivesUnless {T = Step} is_step_memory (Err fault) (plan_of expected) → GivesUnless {T = Step} is_step_memory (Err fault) (step_result (with_store room facts expected))
-fault-given room facts fault (Err other) e = e
-fault-given room facts fault (Ok step) e =
+pub fault-given : (cells : ℕ) (facts : List Fact) (fault : StepFault) (expected : Result NodeStep StepFault)
+    → GivesUnless {T = Step} is_step_memory (Err fault) (plan_of expected) → GivesUnless {T = Step} is_step_memory (Err fault) (step_result (with_store cells facts expected))
+fault-given cells facts fault (Err other) e = e
+fault-given cells facts fault (Ok step) e =
     elim (cases_Bool (is_step_memory fault)) [
       | inl free ↦ rw free tt
       | inr not ↦ absurd (let bad : Err fault ≡ Ok (planned step) = rw not at e in cc)
@@ -75,20 +74,20 @@ fault-given room facts fault (Ok step) e =
 -- ---- what is left
 
 module _ {S : Type 0} (stands : S → List Fact → Type 0) (node : Node S) (cluster : Cluster) (me : ℕ) (facts : List Fact) (volatile : Volatile) where
-  left-if : (room : Room) (plan : Step) (fact : Fact) (step : NodeStep) (result : Result (Unit {0}) StepFault) (after : Step) (answer : Result (Unit {0}) StoreFault)
+  left-if : (cells : ℕ) (plan : Step) (fact : Fact) (step : NodeStep) (result : Result (Unit {0}) StepFault) (after : Step) (answer : Result (Unit {0}) StoreFault)
       → step.fact ≡ Some fact → Ends volatile step.after (Some fact)
       → GivesUnless is_step_memory (unless_refused result after) (step_if plan fact answer)
       → OnOk result (RepresentsCentre stands node cluster me (fact ∷ facts) (closed_if_ended (heard_by (Some fact)) volatile))
       → OnErr result (RepresentsCentre stands node cluster me facts volatile)
       → UnlessMemory (unless_refused result after) (RepresentsAfter stands node cluster me facts volatile (if_added step answer))
-  left-if room plan fact step (Ok done) after (Ok added) is ends e ok err = rw (is, ends) ok
-  left-if room plan fact step (Ok done) after (Err fault) is ends e ok err = absurd (cc)
-  left-if room plan fact step (Err fault) after (Ok added) is ends e ok err =
+  left-if cells plan fact step (Ok done) after (Ok added) is ends e ok err = rw (is, ends) ok
+  left-if cells plan fact step (Ok done) after (Err fault) is ends e ok err = absurd (cc)
+  left-if cells plan fact step (Err fault) after (Ok added) is ends e ok err =
       elim (cases_Bool (is_step_memory fault)) [
         | inl free ↦ rw free tt
         | inr not ↦ absurd (let bad : Err fault ≡ step_if plan fact (Ok added) = rw not at e in cc)
       ]
-  left-if room plan fact step (Err fault) after (Err other) is ends e ok err =
+  left-if cells plan fact step (Err fault) after (Err other) is ends e ok err =
       elim (cases_Bool (is_step_memory fault)) [
         | inl free ↦ rw free tt
         | inr not ↦ rw not err
@@ -105,33 +104,33 @@ module _ {S : Type 0} (stands : S → List Fact → Type 0) (node : Node S) (clu
         | inr not ↦ absurd (let bad : Err fault ≡ Ok plan = rw not at e in cc)
       ]
 
-  left-by : (room : Room) (step : NodeStep) (fact : Option Fact) (result : Result (Unit {0}) StepFault) (after : Step)
+  left-by : (cells : ℕ) (step : NodeStep) (fact : Option Fact) (result : Result (Unit {0}) StepFault) (after : Step)
       → step.fact ≡ fact → Ends volatile step.after fact
-      → GivesUnless is_step_memory (unless_refused result after) (if_plan_added room facts (planned step) fact)
+      → GivesUnless is_step_memory (unless_refused result after) (if_plan_added cells facts (planned step) fact)
       → OnOk result (RepresentsCentre stands node cluster me (with_new facts fact) (closed_if_ended (heard_by fact) (kept_by volatile step.after fact)))
       → OnErr result (RepresentsCentre stands node cluster me facts (kept_by volatile step.after fact))
-      → UnlessMemory (unless_refused result after) (RepresentsAfter stands node cluster me facts volatile (if_fact_added room facts step fact))
-  left-by room step None result after is ends e ok err = left-none (planned step) step result after is e ok
-  left-by room step (Some fact) result after is ends e ok err =
-      left-if room (planned step) fact step result after (add_result room.spare (room.needed fact) facts fact) is ends e ok err
+      → UnlessMemory (unless_refused result after) (RepresentsAfter stands node cluster me facts volatile (if_fact_added cells facts step fact))
+  left-by cells step None result after is ends e ok err = left-none (planned step) step result after is e ok
+  left-by cells step (Some fact) result after is ends e ok err =
+      left-if cells (planned step) fact step result after (store_result cells facts fact) is ends e ok err
 
-  pub plan-left : (room : Room) (plan : Step) (expected : Result NodeStep StepFault) (result : Result (Unit {0}) StepFault) (after : Step)
+  pub plan-left : (cells : ℕ) (plan : Step) (expected : Result NodeStep StepFault) (result : Result (Unit {0}) StepFault) (after : Step)
       → Ok plan ≡ plan_of expected → EndsIn volatile expected
-      → GivesUnless is_step_memory (unless_refused result after) (if_plan_added room facts plan plan.fact)
+      → GivesUnless is_step_memory (unless_refused result after) (if_plan_added cells facts plan plan.fact)
       → OnOk result (RepresentsCentre stands node cluster me (with_new facts plan.fact) (closed_if_ended (heard_by plan.fact) (volatile_kept volatile expected)))
       → OnErr result (RepresentsCentre stands node cluster me facts (volatile_kept volatile expected))
-      → UnlessMemory (unless_refused result after) (RepresentsAfter stands node cluster me facts volatile (with_store room facts expected))
-  plan-left room plan (Err fault) result after is ends e ok err = absurd (cc)
-  plan-left room plan (Ok step) result after is ends e ok err =
+      → UnlessMemory (unless_refused result after) (RepresentsAfter stands node cluster me facts volatile (with_store cells facts expected))
+  plan-left cells plan (Err fault) result after is ends e ok err = absurd (cc)
+  plan-left cells plan (Ok step) result after is ends e ok err =
       let same : plan ≡ planned step = cc in
-      left-by room step step.fact result after refl ends (rw same at e) (rw same at ok) err
+      left-by cells step step.fact result after refl ends (rw same at e) (rw same at ok) err
 
-  pub fault-left : (room : Room) (fault : StepFault) (expected : Result NodeStep StepFault)
+  pub fault-left : (cells : ℕ) (fault : StepFault) (expected : Result NodeStep StepFault)
       → GivesUnless {T = Step} is_step_memory (Err fault) (plan_of expected)
       → UnlessMemory {T = Step} (Err fault) (RepresentsCentre stands node cluster me facts (volatile_kept volatile expected))
-      → UnlessMemory {T = Step} (Err fault) (RepresentsAfter stands node cluster me facts volatile (with_store room facts expected))
-  fault-left room fault (Err other) e h = h
-  fault-left room fault (Ok step) e h =
+      → UnlessMemory {T = Step} (Err fault) (RepresentsAfter stands node cluster me facts volatile (with_store cells facts expected))
+  fault-left cells fault (Err other) e h = h
+  fault-left cells fault (Ok step) e h =
       elim (cases_Bool (is_step_memory fault)) [
         | inl free ↦ rw free tt
         | inr not ↦ absurd (let bad : Err fault ≡ Ok (planned step) = rw not at e in cc)

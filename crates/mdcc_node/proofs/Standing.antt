@@ -1,7 +1,7 @@
 -- What holds of a node whatever comes, and who sent it a message.
 use Rattle.std.proofs.Common.{◌≡◌, ℕ, Bool, true, false, List, Some, None, Ok, Err, Result, refl, if◌then◌else◌}
 use Rattle.std.specs.Bool.{OnFalse, OnTrue}
-use Rattle.mdcc_node.specs.StepAnswers.{OnMemory, Room, UnlessMemory, is_step_memory, step_by, with_store}
+use Rattle.mdcc_node.specs.StepAnswers.{OnMemory, UnlessMemory, is_step_memory, step_by, with_store}
 use Rattle.mdcc_option.specs.declared.cluster.Cluster.{Cluster}
 use Rattle.mdcc_def_rules.specs.Node.{is_own_message, message_step}
 use Rattle.mdcc_def_rules.specs.declared.node.Input.{Input}
@@ -42,14 +42,14 @@ foreign-by : {X : Type 0} (own : Bool) (sender : ℕ) (step foreign : X) → Non
 foreign-by true sender step foreign e = absurd (cc)
 foreign-by false sender step foreign e = refl
 
-module _ (room : Room) (cluster : Cluster) (me : ℕ) (facts : List Fact) (volatile : Volatile) (envelope : Envelope) where
+module _ (cells : ℕ) (cluster : Cluster) (me : ℕ) (facts : List Fact) (volatile : Volatile) (envelope : Envelope) where
   -- a message of the cluster to this centre
   pub own_step : (from : ℕ) → Some from ≡ (if is_own_message cluster me envelope then Some envelope.from else None)
-      → step_by room cluster me facts volatile (Input.Message envelope) ≡ with_store room facts (message_step (here cluster me facts) volatile from envelope.message)
+      → step_by cells cluster me facts volatile (Input.Message envelope) ≡ with_store cells facts (message_step (here cluster me facts) volatile from envelope.message)
   own_step from e =
-      own-by (is_own_message cluster me envelope) envelope.from from (λ s. with_store room facts (message_step (here cluster me facts) volatile s envelope.message)) (Err StepFault.Foreign) e
+      own-by (is_own_message cluster me envelope) envelope.from from (λ s. with_store cells facts (message_step (here cluster me facts) volatile s envelope.message)) (Err StepFault.Foreign) e
 
   -- any other
   pub foreign_step : None ≡ (if is_own_message cluster me envelope then Some envelope.from else None)
-      → step_by room cluster me facts volatile (Input.Message envelope) ≡ Err StepFault.Foreign
+      → step_by cells cluster me facts volatile (Input.Message envelope) ≡ Err StepFault.Foreign
   foreign_step e = foreign-by (is_own_message cluster me envelope) envelope.from _ (Err StepFault.Foreign) e

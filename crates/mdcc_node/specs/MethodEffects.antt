@@ -1,10 +1,10 @@
 -- What a node's method does: what it answers, and what the node is afterwards.
-use Rattle.std.specs.Prelude.{Bool, Err, List, None, Ok, Option, Result, Some, ℕ, ◌+◌, ◌≡◌}
+use Rattle.std.specs.Prelude.{Bool, List, None, Option, Result, Some, ℕ}
 use Rattle.mdcc_base.specs.declared.identifiers.TxId.{TxId}
 use Rattle.mdcc_base.specs.Unless.{GivesUnless}
 use Rattle.mdcc_def_messages.specs.declared.facts.Fact.{Fact}
 use Rattle.mdcc_node.specs.Represents.{RepresentsAfter, RepresentsCentre}
-use Rattle.mdcc_node.specs.StepAnswers.{OnMemory, UnlessMemory, step_result, is_step_memory, room_of, with_store}
+use Rattle.mdcc_node.specs.StepAnswers.{OnMemory, UnlessMemory, step_result, is_step_memory, with_store}
 use Rattle.mdcc_node.specs.declared.node.Node.{Node}
 use Rattle.mdcc_option.specs.declared.cluster.Cluster.{Cluster}
 use Rattle.mdcc_def_protocol.specs.Volatile.{Volatile, closed}
@@ -25,23 +25,11 @@ pub record Follows {S : Type 0} (stands : S → List Fact → Type 0) (before : 
   pub memory : (facts : List Fact) → stands before.store facts → OnMemory result (stands after.store facts)
 
 -- the same for a rule whose fact the store may refuse
-abbrev pub Does : {S : Type 0} → (S → List Fact → Type 0) → (S → ℕ) → (S → Fact → ℕ) → Node S → Result Step StepFault → Node S → Rule → Type 0
-Does stands spare needed before result after rule =
-    Follows stands before result after (λ cluster me facts volatile. with_store (room_of spare needed before.store) facts (rule cluster me facts volatile))
+abbrev pub Does : {S : Type 0} → (S → List Fact → Type 0) → (S → ℕ) → Node S → Result Step StepFault → Node S → Rule → Type 0
+Does stands cells before result after rule =
+    Follows stands before result after (λ cluster me facts volatile. with_store (cells before.store) facts (rule cluster me facts volatile))
 
 -- a transaction that has ended is closed
 abbrev pub closed_if_ended : Option (TxId × Bool) → Volatile → Volatile
 closed_if_ended None volatile = volatile
 closed_if_ended (Some (tx, is_commit)) volatile = closed volatile tx
-
--- ---- cells
-
--- how many cells the fact of a step needs
-abbrev pub cells_taken : (Fact → ℕ) → Option Fact → ℕ
-cells_taken needed None = 0
-cells_taken needed (Some fact) = needed fact
-
--- the store has fewer cells spare by those of the step's fact; after a refusal it has as many as before
-abbrev pub Spends : {S : Type 0} → (S → ℕ) → (S → Fact → ℕ) → S → Result Step StepFault → S → Type 0
-Spends spare needed before (Ok step) after = spare after + cells_taken (needed before) step.fact ≡ spare before
-Spends spare needed before (Err fault) after = spare after ≡ spare before

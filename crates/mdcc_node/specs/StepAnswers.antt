@@ -1,8 +1,10 @@
--- What a node answers to an input over a store with so many spare cells, and what it is afterwards.
+-- What a node answers to an input over a store with so many cells, and what it is afterwards.
 use Rattle.std.specs.Bool.{OnFalse, OnTrue}
-use Rattle.std.specs.Prelude.{Bool, Err, List, None, Ok, Option, Result, Some, false, if◌then◌else◌, true, ⊤, ℕ, ◌∷◌, ◌≤◌}
+use Rattle.std.specs.Prelude.{Bool, Err, List, None, Ok, Option, Result, Some, false, if◌then◌else◌, true, ⊤, ℕ, ◌-◌, ◌≤◌}
 use Rattle.mdcc_facts.specs.Adding.{add_result}
 use Rattle.mdcc_option.specs.declared.cluster.Cluster.{Cluster}
+use Rattle.mdcc_def_messages.specs.Lengths.{cells_needed}
+use Rattle.mdcc_def_protocol.specs.Cells.{cells_held}
 use Rattle.mdcc_def_rules.specs.Node.{is_own_message, message_step, step_of}
 use Rattle.mdcc_def_rules.specs.Steps.{NodeStep, heard_by, store_step_fault, step_given, with_new}
 use Rattle.mdcc_def_protocol.specs.Volatile.{Volatile}
@@ -15,38 +17,34 @@ use Rattle.mdcc_theorem_node_steps.specs.NodeInvariant.{accept_length_in}
 use Rattle.mdcc_theorem_node_steps.specs.Inputs.{IsWellFormedInput}
 use Rattle.mdcc_def_rules.specs.Here.{here}
 
--- ---- the store's room
+-- ---- the store's cells
 
--- the cells of a store: how many are spare, and how many a fact needs
-pub record Room : Type 0 where
-  pub spare : ℕ
-  pub needed : Fact → ℕ
-
-abbrev pub room_of : {S : Type 0} → (S → ℕ) → (S → Fact → ℕ) → S → Room
-room_of spare needed store = record { spare = spare store; needed = needed store }
+-- what a store with so many cells answers to a fact
+abbrev pub store_result : ℕ → List Fact → Fact → Result (Unit {0}) StoreFault
+store_result cells facts fact = add_result (cells - cells_held facts) (cells_needed fact) facts fact
 
 -- the step, where the store takes its fact
 abbrev pub if_added : NodeStep → Result (Unit {0}) StoreFault → Result NodeStep StepFault
 if_added step (Ok _) = Ok step
 if_added step (Err fault) = Err (store_step_fault fault)
 
-abbrev pub if_fact_added : Room → List Fact → NodeStep → Option Fact → Result NodeStep StepFault
-if_fact_added room facts step None = Ok step
-if_fact_added room facts step (Some fact) = if_added step (add_result room.spare (room.needed fact) facts fact)
+abbrev pub if_fact_added : ℕ → List Fact → NodeStep → Option Fact → Result NodeStep StepFault
+if_fact_added cells facts step None = Ok step
+if_fact_added cells facts step (Some fact) = if_added step (store_result cells facts fact)
 
-abbrev pub with_store : Room → List Fact → Result NodeStep StepFault → Result NodeStep StepFault
-with_store room facts (Err fault) = Err fault
-with_store room facts (Ok step) = if_fact_added room facts step step.fact
+abbrev pub with_store : ℕ → List Fact → Result NodeStep StepFault → Result NodeStep StepFault
+with_store cells facts (Err fault) = Err fault
+with_store cells facts (Ok step) = if_fact_added cells facts step step.fact
 
 -- ---- the step
 
 -- what an input does at a node over such a store
-abbrev pub step_by : Room → Cluster → ℕ → List Fact → Volatile → Input → Result NodeStep StepFault
-step_by room cluster me facts volatile (Input.Message envelope) =
+abbrev pub step_by : ℕ → Cluster → ℕ → List Fact → Volatile → Input → Result NodeStep StepFault
+step_by cells cluster me facts volatile (Input.Message envelope) =
     if is_own_message cluster me envelope
-    then with_store room facts (message_step (here cluster me facts) volatile envelope.from envelope.message)
+    then with_store cells facts (message_step (here cluster me facts) volatile envelope.from envelope.message)
     else Err StepFault.Foreign
-step_by room cluster me facts volatile input = step_of (here cluster me facts) volatile input
+step_by cells cluster me facts volatile input = step_of (here cluster me facts) volatile input
 
 -- what the caller is given
 abbrev pub step_result : Result NodeStep StepFault → Result Step StepFault
@@ -63,9 +61,9 @@ abbrev pub step_if : Step → Fact → Result (Unit {0}) StoreFault → Result S
 step_if step fact (Ok _) = Ok (record step { heard = heard_by (Some fact) })
 step_if step fact (Err fault) = Err (store_step_fault fault)
 
-abbrev pub if_plan_added : Room → List Fact → Step → Option Fact → Result Step StepFault
-if_plan_added room facts step None = Ok step
-if_plan_added room facts step (Some fact) = step_if step fact (add_result room.spare (room.needed fact) facts fact)
+abbrev pub if_plan_added : ℕ → List Fact → Step → Option Fact → Result Step StepFault
+if_plan_added cells facts step None = Ok step
+if_plan_added cells facts step (Some fact) = step_if step fact (store_result cells facts fact)
 
 -- ---- what is left
 

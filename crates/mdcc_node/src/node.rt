@@ -1,14 +1,13 @@
 //! One node.
-ghost use Rattle.std.specs.Prelude.{◌≡◌, ◌≤◌, ◌+◌, ◌∷◌, List, ℕ, OnErr, OnOk, Some, false, true};
+ghost use Rattle.std.specs.Prelude.{◌≡◌, ◌≤◌, ◌∷◌, List, ℕ, OnErr, OnOk, Some, false, true};
 ghost use Rattle.mdcc_base.specs.Unless.{GivesUnless};
-ghost use Rattle.mdcc_facts.specs.Adding.{add_result};
 ghost use Rattle.mdcc_def_messages.specs.WellFormed.{IsWellFormedEnvelope, IsWellFormedMessage};
 ghost use Rattle.mdcc_def_messages.specs.declared.facts.Fact.{Fact as AFact};
-ghost use Rattle.mdcc_node.specs.MethodEffects.{Does, Follows, Spends, closed_if_ended};
+ghost use Rattle.mdcc_node.specs.MethodEffects.{Does, Follows, closed_if_ended};
 ghost use Rattle.mdcc_node.specs.StepPlans.{FitsFrame, IsNews, MayFollow, PlanFitsFrame, Plans, blank, is_asked_by_leader, is_for_leader, is_of_fast_path, unless_refused};
 ghost use Rattle.mdcc_node.specs.NodeHistory.{IsRunning};
 ghost use Rattle.mdcc_node.specs.Represents.{RepresentsCentre};
-ghost use Rattle.mdcc_node.specs.StepAnswers.{IsInputGiven, add_given, is_step_memory, room_of, step_by, if_plan_added};
+ghost use Rattle.mdcc_node.specs.StepAnswers.{IsInputGiven, add_given, if_plan_added, is_step_memory, step_by, store_result};
 ghost use Rattle.mdcc_option.specs.declared.cluster.Cluster.{Cluster as ACluster};
 ghost use Rattle.mdcc_def_protocol.specs.Belongs.{is_centre};
 ghost use Rattle.mdcc_def_protocol.specs.Facts.{epoch_of};
@@ -60,14 +59,13 @@ impl<S: FactStore + Drop> Node<S> {
         requires fits { FitsFrame fact.now }
         requires no_boot { (facts : List AFact) → S.stands self.old.store facts → epoch_of (fact.now ∷ facts) ≡ epoch_of facts }
         ensures answer { (facts : List AFact) → S.stands self.old.store facts
-            → GivesUnless is_step_memory result (add_given (add_result (S.room self.old.store) (S.cells_for self.old.store fact.now) facts fact.now)) }
+            → GivesUnless is_step_memory result (add_given (store_result (S.cells self.old.store) facts fact.now)) }
         ensures ok { (cluster : ACluster) (me : ℕ) (facts : List AFact) (volatile : AVolatile) → RepresentsCentre S.stands self.old cluster me facts volatile
             → OnOk result (RepresentsCentre S.stands self.new cluster me (fact.now ∷ facts) (closed_if_ended (heard_by (Some fact.now)) volatile)) }
         ensures err { (cluster : ACluster) (me : ℕ) (facts : List AFact) (volatile : AVolatile) → RepresentsCentre S.stands self.old cluster me facts volatile
             → OnErr result (RepresentsCentre S.stands self.new cluster me facts volatile) }
         ensures left { (facts : List AFact) → S.stands self.old.store facts → OnErr result (S.stands self.new.store facts) }
-        ensures used { OnOk result (S.room self.new.store + S.cells_for self.old.store fact.now ≡ S.room self.old.store) }
-        ensures unused { OnErr result (S.room self.new.store ≡ S.room self.old.store) }
+        ensures cells { S.cells self.new.store ≡ S.cells self.old.store }
     {
         self.store.add(fact)?;
         if let Fact::Heard { tx, .. } = fact {
@@ -91,13 +89,13 @@ impl<S: FactStore + Drop> Node<S> {
         requires follows { (facts : List AFact) → S.stands self.old.store facts → MayFollow facts step.old.fact }
         requires fits { PlanFitsFrame step.old.fact }
         ensures answer { (facts : List AFact) → S.stands self.old.store facts
-            → GivesUnless is_step_memory (unless_refused result step.new) (if_plan_added (room_of S.room S.cells_for self.old.store) facts step.old step.old.fact) }
+            → GivesUnless is_step_memory (unless_refused result step.new) (if_plan_added (S.cells self.old.store) facts step.old step.old.fact) }
         ensures ok { (cluster : ACluster) (me : ℕ) (facts : List AFact) (volatile : AVolatile) → RepresentsCentre S.stands self.old cluster me facts volatile
             → OnOk result (RepresentsCentre S.stands self.new cluster me (with_new facts step.old.fact) (closed_if_ended (heard_by step.old.fact) volatile)) }
         ensures err { (cluster : ACluster) (me : ℕ) (facts : List AFact) (volatile : AVolatile) → RepresentsCentre S.stands self.old cluster me facts volatile
             → OnErr result (RepresentsCentre S.stands self.new cluster me facts volatile) }
         ensures left { (facts : List AFact) → S.stands self.old.store facts → OnErr result (S.stands self.new.store facts) }
-        ensures spent { Spends S.room S.cells_for self.old.store (unless_refused result step.new) self.new.store }
+        ensures cells { S.cells self.new.store ≡ S.cells self.old.store }
     {
         if let Some(fact) = &step.fact {
             self.add(fact)?;
@@ -286,8 +284,8 @@ impl<S: FactStore + Drop> Node<S> {
         requires running { IsRunning S.stands self.old }
         requires member { from ≤ self.old.cluster.quorums.centres }
         requires blank { step.old ≡ blank }
-        ensures does { Does S.stands S.room S.cells_for self.old (unless_refused result step.new) self.new (λ cluster me facts volatile. message_step (here cluster me facts) volatile from message.now) }
-        ensures spent { Spends S.room S.cells_for self.old.store (unless_refused result step.new) self.new.store }
+        ensures does { Does S.stands S.cells self.old (unless_refused result step.new) self.new (λ cluster me facts volatile. message_step (here cluster me facts) volatile from message.now) }
+        ensures cells { S.cells self.new.store ≡ S.cells self.old.store }
     {
         self.take(from, message, step)?;
         self.add_planned(step)
@@ -300,8 +298,8 @@ impl<S: FactStore + Drop> Node<S> {
         requires short { accept_length envelope.now.message ≤ 2097152 }
         requires running { IsRunning S.stands self.old }
         requires blank { step.old ≡ blank }
-        ensures follows { Follows S.stands self.old (unless_refused result step.new) self.new (λ cluster me facts volatile. step_by (room_of S.room S.cells_for self.old.store) cluster me facts volatile (AInput.Message envelope.now)) }
-        ensures spent { Spends S.room S.cells_for self.old.store (unless_refused result step.new) self.new.store }
+        ensures follows { Follows S.stands self.old (unless_refused result step.new) self.new (λ cluster me facts volatile. step_by (S.cells self.old.store) cluster me facts volatile (AInput.Message envelope.now)) }
+        ensures cells { S.cells self.new.store ≡ S.cells self.old.store }
     {
         match sender_of(&self.cluster, self.centre.number(), envelope) {
             Some(from) => self.receive(from, &envelope.message, step),
@@ -314,8 +312,8 @@ impl<S: FactStore + Drop> Node<S> {
         requires input { IsInputGiven input.now }
         requires running { IsRunning S.stands self.old }
         requires blank { step.old ≡ blank }
-        ensures follows { Follows S.stands self.old (unless_refused result step.new) self.new (λ cluster me facts volatile. step_by (room_of S.room S.cells_for self.old.store) cluster me facts volatile input.now) }
-        ensures spent { Spends S.room S.cells_for self.old.store (unless_refused result step.new) self.new.store }
+        ensures follows { Follows S.stands self.old (unless_refused result step.new) self.new (λ cluster me facts volatile. step_by (S.cells self.old.store) cluster me facts volatile input.now) }
+        ensures cells { S.cells self.new.store ≡ S.cells self.old.store }
     {
         match input {
             Input::Message(envelope) => self.deliver(envelope, step),
@@ -334,13 +332,12 @@ impl<S: FactStore + Drop> Node<S> {
     /// makes the fact durable before it lets anything out. A transaction was made under the
     /// cluster's schema, and an Accept has at most 2,097,152 bytes. A message is refused where it is for another centre or not of the cluster,
     /// where its fact is, and where the leader refuses it. After a refusal the node is as it was, but
-    /// where there was no memory only its facts are, and it is to be booted again. The store has fewer
-    /// cells spare by those of the fact.
+    /// where there was no memory only its facts are, and it is to be booted again.
     pub fn step(&mut self, input: &Input) -> Result<Step, StepFault>
         requires input { IsInputGiven input.now }
         requires running { IsRunning S.stands self.old }
-        ensures follows { Follows S.stands self.old result self.new (λ cluster me facts volatile. step_by (room_of S.room S.cells_for self.old.store) cluster me facts volatile input.now) }
-        ensures spent { Spends S.room S.cells_for self.old.store result self.new.store }
+        ensures follows { Follows S.stands self.old result self.new (λ cluster me facts volatile. step_by (S.cells self.old.store) cluster me facts volatile input.now) }
+        ensures cells { S.cells self.new.store ≡ S.cells self.old.store }
     {
         let mut step = blank(self.alloc);
         self.act_on(input, &mut step)?;

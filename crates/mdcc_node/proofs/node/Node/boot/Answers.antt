@@ -2,8 +2,8 @@ use Rattle.std.proofs.Common.{rules, refl}
 use Rattle.mdcc_node.proofs.node.Node.boot.Goals as goal
 
 pub returns-in_ok-recover-in-Ok-clause-boots : goal.returns-in_ok-recover-in-Ok-clause-boots
-returns-in_ok-recover-in-Ok-clause-boots g c all held =
-    let booted = c.in-Ok.ensures all held in (
+returns-in_ok-recover-in-Ok-clause-boots g c total held =
+    let booted = c.in-Ok.ensures total held in (
       booted.0,
       booted.1,
       record {
