@@ -7,6 +7,7 @@ numbers, the facts before it and their bytes, and is found again in either area.
 After the closed gate that ends an area a node writes zeros, a mebibyte at most, over which it appends.
 """
 import os
+import re
 import time
 import zlib
 from typing import Callable, List, NamedTuple, Optional
@@ -24,6 +25,8 @@ AHEAD = 1 << 20
 PIECE = 8 << 20
 PATIENCE = 20
 MOST_AT_ONCE = 5000
+# A lock that a process has: `1: FLOCK  ADVISORY  WRITE 4711 fe:00:131 0 EOF`. Behind `->` stands one that waits for it.
+LOCK = re.compile(r"(?m)^\d+: FLOCK .*?:(\d+) \d+ \S+$")
 
 
 class Moved(OSError):
@@ -132,8 +135,8 @@ def is_in_use(folder: str, centre: int) -> bool:
     """Whether a process of this machine has a lock of the log, as a node has while it runs."""
     try:
         with open("/proc/locks") as table:
-            locked = {line.split()[5].rsplit(":", 1)[1] for line in table if "FLOCK" in line}
-    except (OSError, IndexError):
+            locked = set(LOCK.findall(table.read()))
+    except OSError:
         return False
     for end in ENDS:
         try:
