@@ -107,3 +107,16 @@ fn an_index_may_have_no_room(rt: HostRuntime) -> Result<(), Fail> {
     assert!(rt; are_found(&index, &key(b'a'), &[]));
     Ok(())
 }
+
+#[test]
+fn a_cleared_index_is_filled_again(rt: HostRuntime) -> Result<(), Fail> {
+    let mut index = TransactionIndex::new(rt.alloc(), 3)?;
+    add_all(&mut index, &[tx(1), tx(2), tx(1)]);
+    assert!(rt; index.is_full());
+    index.clear();
+    assert!(rt; index.len() == 0);
+    assert!(rt; are_found(&index, &tx(1), &[]) && are_found(&index, &tx(2), &[]));
+    add_all(&mut index, &[tx(2), tx(1), tx(2)]);
+    assert!(rt; are_found(&index, &tx(2), &[2, 0]) && are_found(&index, &tx(1), &[1]));
+    Ok(())
+}

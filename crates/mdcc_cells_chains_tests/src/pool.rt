@@ -131,3 +131,16 @@ fn a_pool_without_cells_holds_nothing(rt: HostRuntime) -> Result<(), Fail> {
     assert!(rt; pool.put(b"".as_slice()) == Err(PoolFull));
     Ok(())
 }
+
+#[test]
+fn a_cleared_pool_has_all_its_cells(rt: HostRuntime) -> Result<(), Fail> {
+    let alloc = rt.alloc();
+    let mut pool = CellPool::new(alloc, 3)?;
+    let first = put_equal(alloc, &mut pool, 6, 61)?.unwrap_or(Ticket { first: 4 });
+    assert!(rt; pool.spare() == 1 && pool.holds(&first));
+    pool.clear();
+    assert!(rt; pool.spare() == 3 && !pool.holds(&first));
+    let again = put_equal(alloc, &mut pool, 7, 180)?.unwrap_or(Ticket { first: 4 });
+    assert!(rt; pool.spare() == 0 && are_equal(&pool, &again, 7, 180));
+    Ok(())
+}
