@@ -3,6 +3,7 @@ pub mod Adding
 pub mod Amounts
 pub mod Barred
 pub mod Cleared
+pub mod LoadBy
 pub mod Marked
 pub mod Reading
 pub mod Spare

@@ -1,3 +1,4 @@
 pub mod Crowding
+pub mod Loads
 pub mod Marks
 pub mod Stores
