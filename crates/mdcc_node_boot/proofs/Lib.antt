@@ -9,3 +9,4 @@ pub mod Several
 pub mod Short
 pub mod Single
 pub mod Taking
+pub mod Within

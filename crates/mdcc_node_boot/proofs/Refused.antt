@@ -1,15 +1,16 @@
 -- Why an admitted fact is not taken by a store.
-use Rattle.std.proofs.Common.{◌≡◌, ℕ, ◌+◌, ◌-◌, ◌^◌, Bool, true, false, not, nat_lt, min, List, [], ◌∷◌, Ok, Err, Result, Some, refl, ◌∙◌, ap, arith, if◌then◌else◌, ◌&&◌}
+use Rattle.std.proofs.Common.{◌≡◌, ◌≤◌, ℕ, ◌+◌, ◌-◌, ◌^◌, Bool, true, false, not, nat_lt, min, List, [], ◌∷◌, Ok, Err, Result, Some, refl, ◌∙◌, ap, arith, if◌then◌else◌, ◌&&◌}
 use Rattle.std.specs.Bool.{OnFalse}
 use Rattle.std.proofs.lemmas.Bool.Decides.{nat_tests}
 use Rattle.mdcc_node_boot.specs.Admission.{is_admitted}
 use Rattle.mdcc_node_boot.specs.Laws.{AdmissionIsExact, AreCounted}
-use Rattle.mdcc_node_boot.specs.Loading.{Cells, is_boot_memory, loaded_by, refusal, store_fault}
-use Rattle.mdcc_base.specs.Counts.{sum_over}
+use Rattle.mdcc_node_boot.specs.Loading.{is_boot_memory, loaded_by, refusal, store_fault}
 use Rattle.mdcc_facts.specs.Adding.{add_result, is_store_memory}
 use Rattle.mdcc_def_ledger.specs.BootTest.{is_allowed_fact}
 use Rattle.mdcc_option.specs.declared.cluster.Cluster.{Cluster}
+use Rattle.mdcc_def_protocol.specs.Cells.{cells_held}
 use Rattle.mdcc_def_protocol.specs.News.{is_crowding}
+use Rattle.mdcc_def_messages.specs.Lengths.{cells_needed}
 use Rattle.mdcc_def_protocol.specs.declared.stores.StoreFault.{StoreFault}
 use Rattle.mdcc_def_messages.specs.declared.facts.Fact.{Fact}
 use Rattle.mdcc_def_rules.specs.declared.node.BootFault.{BootFault}
@@ -55,12 +56,14 @@ module _ (n total room needed used : ℕ) (more : List Fact) (all : room + used 
           let is_b : b ≡ room = cc in
           rw (e, past is, is_a, is_b) (ap (λ x. Err x) (same_room is))
 
-pub refused : (cells : Cells) (cluster : Cluster) (facts : List Fact) (n : ℕ) (fact : Fact) (fault : StoreFault) (room needed : ℕ)
-    → AdmissionIsExact → AreCounted facts → is_admitted cluster facts fact ≡ true
-    → room + sum_over cells.needed facts ≡ cells.total → needed ≡ cells.needed fact
-    → OnFalse (is_store_memory fault) (Err fault ≡ add_result room needed facts fact)
-    → OnFalse (is_boot_memory (refusal cells.total facts n fact fault)) (loaded_by cells cluster facts n (Some fact ∷ []) ≡ Err (refusal cells.total facts n fact fault))
-refused cells cluster facts n fact fault room needed exact counted admitted all needs answer =
+left_over : (total used : ℕ) → used ≤ total → total - used + used ≡ total
+left_over total used h = omega arith
+
+pub refused : (cells : ℕ) (cluster : Cluster) (facts : List Fact) (n : ℕ) (fact : Fact) (fault : StoreFault)
+    → AdmissionIsExact → AreCounted facts → is_admitted cluster facts fact ≡ true → cells_held facts ≤ cells
+    → OnFalse (is_store_memory fault) (Err fault ≡ add_result (cells - cells_held facts) (cells_needed fact) facts fact)
+    → OnFalse (is_boot_memory (refusal cells facts n fact fault)) (loaded_by cells cluster facts n (Some fact ∷ []) ≡ Err (refusal cells facts n fact fault))
+refused cells cluster facts n fact fault exact counted admitted within answer =
     let same : is_allowed_fact cluster facts fact ≡ not (is_crowding facts fact) = exact cluster facts fact counted ∙ ap (λ b. b && not (is_crowding facts fact)) admitted in
-    let told : OnFalse (is_store_memory fault) (Err fault ≡ add_result room (cells.needed fact) facts fact) = rw needs at answer in
-    by_fault n cells.total room (cells.needed fact) (sum_over cells.needed facts) (fact ∷ facts) all (is_crowding facts fact) (is_allowed_fact cluster facts fact) fault same told
+    by_fault n cells (cells - cells_held facts) (cells_needed fact) (cells_held facts) (fact ∷ facts) (left_over cells (cells_held facts) within)
+    (is_crowding facts fact) (is_allowed_fact cluster facts fact) fault same answer

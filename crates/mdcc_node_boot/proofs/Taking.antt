@@ -1,7 +1,7 @@
 -- Facts that are loaded from payloads, one after the other.
-use Rattle.std.proofs.Common.{◌≡◌, ℕ, ◌+◌, Bool, true, false, not, List, [], ◌∷◌, drop, map, slice_get, Option, Some, None, Ok, Err, ◌∙◌, ap, arith, if◌then◌else◌}
+use Rattle.std.proofs.Common.{◌≡◌, ℕ, ◌+◌, Bool, true, false, not, List, [], ◌∷◌, drop, map, slice_get, Option, Some, None, Ok, Err, ◌∙◌, ap, if◌then◌else◌}
 use Rattle.std.specs.Bool.{OnFalse}
-use Rattle.mdcc_node_boot.specs.Loading.{Cells, exceeds_cells, fact_read, loaded_by, past_fault}
+use Rattle.mdcc_node_boot.specs.Loading.{exceeds_cells, fact_read, loaded_by, past_fault}
 use Rattle.mdcc_def_ledger.specs.BootTest.{is_allowed_fact}
 use Rattle.mdcc_option.specs.declared.cluster.Cluster.{Cluster}
 use Rattle.mdcc_def_messages.specs.declared.facts.Fact.{Fact}
@@ -10,7 +10,7 @@ use Rattle.mdcc_struct.proofs.Walks.{drop-get}
 
 -- ---- the first payload
 
-module _ (cells : Cells) (cluster : Cluster) (facts : List Fact) (n : ℕ) (payloads : List (Option Fact)) where
+module _ (cells : ℕ) (cluster : Cluster) (facts : List Fact) (n : ℕ) (payloads : List (Option Fact)) where
   -- where it is taken the others come onto the facts with it
   first-on : (payload : Option Fact) (more : List Fact) → loaded_by cells cluster facts n (payload ∷ []) ≡ Ok more
       → loaded_by cells cluster facts n (payload ∷ payloads) ≡ loaded_by cells cluster more (n + 1) payloads
@@ -41,7 +41,7 @@ module _ (cells : Cells) (cluster : Cluster) (facts : List Fact) (n : ℕ) (payl
 
 -- ---- the payload at a place
 
-module _ (cells : Cells) (cluster : Cluster) (facts : List Fact) (payloads : List (List ℕ)) (place : ℕ) (payload : List ℕ)
+module _ (cells : ℕ) (cluster : Cluster) (facts : List Fact) (payloads : List (List ℕ)) (place : ℕ) (payload : List ℕ)
     (at : slice_get payloads place ≡ Some payload) where
   next : loaded_by cells cluster facts place (map fact_read (drop place payloads))
       ≡ loaded_by cells cluster facts place (fact_read payload ∷ map fact_read (drop (place + 1) payloads))
@@ -54,10 +54,6 @@ module _ (cells : Cells) (cluster : Cluster) (facts : List Fact) (payloads : Lis
   pub load_ends : (fault : BootFault) → loaded_by cells cluster facts place (fact_read payload ∷ []) ≡ Err fault
       → loaded_by cells cluster facts place (map fact_read (drop place payloads)) ≡ Err fault
   load_ends fault e = next ∙ first-ends cells cluster facts place (map fact_read (drop (place + 1) payloads)) (fact_read payload) fault e
-
--- all cells are spare at first
-pub all_spare : (spare total cells : ℕ) → spare + 0 ≡ total → cells ≡ spare → total ≡ cells
-all_spare spare total cells h e = omega arith
 
 pub on_false : (b : Bool) (P Q : Type 0) → (P → Q) → OnFalse b P → OnFalse b Q
 on_false true P Q f h = tt

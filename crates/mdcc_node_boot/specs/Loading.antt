@@ -3,14 +3,16 @@ use Rattle.std.specs.Bool.{OnFalse}
 use Rattle.std.specs.List.{AllByRecursion}
 use Rattle.std.specs.Prelude.{Bool, Err, List, None, Ok, Option, Result, Some, [], false, if◌then◌else◌, length, min, nat_le, nat_lt, not, ℕ, ◌+◌, ◌-◌, ◌^◌, true, ◌∷◌, ◌≡◌, ◌≤◌}
 use Rattle.mdcc_node_boot.specs.Laws.{AreCounted}
-use Rattle.mdcc_base.specs.Counts.{sum_over}
 use Rattle.mdcc_option.specs.declared.cluster.Cluster.{Cluster}
 use Rattle.mdcc_def_ledger.specs.BootTest.{is_allowed_fact}
+use Rattle.mdcc_def_protocol.specs.Cells.{cells_held}
 use Rattle.mdcc_def_protocol.specs.Facts.{epoch_of}
 use Rattle.mdcc_def_protocol.specs.News.{is_crowding}
+use Rattle.mdcc_def_messages.specs.Lengths.{cells_needed}
 use Rattle.mdcc_def_messages.specs.Reading.{fact_of}
 use Rattle.mdcc_def_messages.specs.declared.facts.Fact.{Fact}
 use Rattle.mdcc_def_protocol.specs.declared.stores.StoreFault.{StoreFault}
+use Rattle.mdcc_def_rules.specs.Boot.{next_boot}
 use Rattle.mdcc_def_rules.specs.declared.node.BootFault.{BootFault}
 use Rattle.mdcc_def_messages.specs.declared.wire.WireFault.{WireFault}
 
@@ -30,30 +32,18 @@ AreWithinFrames payloads = AllByRecursion (λ payload. length payload ≤ 209715
 
 -- ---- cells
 
--- the cells of an empty store, and those that a fact needs
-pub record Cells : Type 0 where
-  pub total : ℕ
-  pub needed : Fact → ℕ
+-- whether the fact needs more of so many cells than the others leave
+abbrev pub exceeds_cells : ℕ → List Fact → Fact → Bool
+exceeds_cells cells facts fact = nat_lt cells (cells_held facts + cells_needed fact)
 
--- those of a store that has room for any number of facts
-abbrev pub list_cells : Cells
-list_cells = record { total = 2 ^ 64 - 1; needed = λ fact. 0 }
-
-abbrev pub cells_with : Cells → List Fact → Fact → ℕ
-cells_with cells facts fact = sum_over cells.needed facts + cells.needed fact
-
--- whether the fact needs more cells than the others leave
-abbrev pub exceeds_cells : Cells → List Fact → Fact → Bool
-exceeds_cells cells facts fact = nat_lt cells.total (cells_with cells facts fact)
-
--- the number of cells stops at 2^64 - 1
-abbrev pub past_fault : Cells → List Fact → Fact → BootFault
-past_fault cells facts fact = BootFault.Room (min (cells_with cells facts fact) (2 ^ 64 - 1)) cells.total
+-- the number that is needed stops at 2^64 - 1
+abbrev pub past_fault : ℕ → List Fact → Fact → BootFault
+past_fault cells facts fact = BootFault.Room (min (cells_held facts + cells_needed fact) (2 ^ 64 - 1)) cells
 
 -- ---- what is read, and what a boot adds
 
 -- the payloads in turn, each as its fact where it is one, onto the facts so far, which are as many as the number says
-abbrev pub loaded_by : Cells → Cluster → List Fact → ℕ → List (Option Fact) → Result (List Fact) BootFault
+abbrev pub loaded_by : ℕ → Cluster → List Fact → ℕ → List (Option Fact) → Result (List Fact) BootFault
 loaded_by cells cluster facts n [] = Ok facts
 loaded_by cells cluster facts n (None ∷ payloads) = Err (BootFault.NotARun (n + 1))
 loaded_by cells cluster facts n (Some fact ∷ payloads) =
@@ -62,15 +52,15 @@ loaded_by cells cluster facts n (Some fact ∷ payloads) =
     else loaded_by cells cluster (fact ∷ facts) (n + 1) payloads)
 
 -- the next epoch begins
-abbrev pub with_next_boot : Cells → Result (List Fact) BootFault → Result (List Fact) BootFault
+abbrev pub with_next_boot : ℕ → Result (List Fact) BootFault → Result (List Fact) BootFault
 with_next_boot cells (Err fault) = Err fault
 with_next_boot cells (Ok facts) =
-    let fact = Fact.Booted (epoch_of facts + 1) in
+    let fact = next_boot facts in
     if nat_le (2 ^ 32 - 1) (epoch_of facts) then Err BootFault.Epochs
     else (if exceeds_cells cells facts fact then Err (past_fault cells facts fact) else Ok (fact ∷ facts))
 
 -- the facts of a node that is booted from these payloads, the newest first, or why there is none
-abbrev pub boot_by : Cells → Cluster → List (Option Fact) → Result (List Fact) BootFault
+abbrev pub boot_by : ℕ → Cluster → List (Option Fact) → Result (List Fact) BootFault
 boot_by cells cluster payloads = with_next_boot cells (loaded_by cells cluster [] 0 payloads)
 
 abbrev pub is_boot_memory : BootFault → Bool
@@ -96,11 +86,10 @@ read_fault n fault = BootFault.NotARun (n + 1)
 
 -- ---- stores
 
--- a store that had so many cells when it was empty stands for the facts
-pub record HoldsFacts {S : Type 0} (stands : S → List Fact → Type 0) (room : S → ℕ) (cells_for : S → Fact → ℕ) (cells : Cells) (store : S) (facts : List Fact) : Type 0 where
+-- a store that has so many cells stands for the facts
+pub record HoldsFacts {S : Type 0} (stands : S → List Fact → Type 0) (cells : S → ℕ) (all : ℕ) (store : S) (facts : List Fact) : Type 0 where
   pub list : stands store facts
-  pub spare : room store + sum_over cells.needed facts ≡ cells.total
-  pub needs : (s : S) (fact : Fact) → cells_for s fact ≡ cells.needed fact
+  pub total : cells store ≡ all
   pub counted : AreCounted facts
 
 -- the expected facts, of which something holds, or the expected fault, unless it is one that may come at any time

@@ -1,5 +1,5 @@
 //! What it means that a fact is admitted.
-ghost use Rattle.mdcc_node_boot.specs.Boots.{BootsUnbounded, BootsWithinCells};
+ghost use Rattle.mdcc_node_boot.specs.Boots.{BootsWithinCells};
 ghost use Rattle.mdcc_node_boot.specs.Laws.{AdmissionIsExact, AdmittedMayBeAdded, AllowedEpochsAreCounted, EpochsStayCounted};
 
 /// After facts whose epochs are counted, a fact is allowed exactly where it is admitted and leaves at
@@ -23,14 +23,8 @@ pub fn admitted_may_be_added()
     ensures { AdmittedMayBeAdded }
 {}
 
-/// A boot over a store in which cells never lack is that over one with room for any number of facts.
-#[tactic(auto, using(crate::proofs::Alike::unbounded_boots))]
-pub fn boots_unbounded()
-    ensures { BootsUnbounded }
-{}
-
-/// A boot over a store that has and counts the cells of the cluster is the protocol's.
-#[tactic(auto, using(crate::proofs::Alike::counted_boots))]
+/// A boot over a store that has the cells of the cluster is the protocol's.
+#[tactic(auto, using(crate::proofs::Alike::boots_alike))]
 pub fn boots_within_cells()
     ensures { BootsWithinCells }
 {}

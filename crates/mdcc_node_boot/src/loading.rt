@@ -1,11 +1,12 @@
 //! The payloads of a log, taken into a store, and the boot after them.
-ghost use Rattle.std.specs.Prelude.{◌≡◌, ◌-◌, ◌<◌, ◌≤◌, ◌^◌, ◌∷◌, [], IfOk, IsTrue, List, Ok, Some, length, map, slice_get, true};
-ghost use Rattle.mdcc_node_boot.specs.Loading.{AreWithinFrames, BootsUnless, Cells, HoldsFacts, LoadsUnless, boot_by, fact_read, is_boot_memory, loaded_by, read_fault, refusal, store_fault, with_next_boot};
+ghost use Rattle.std.specs.Prelude.{◌≡◌, ◌-◌, ◌<◌, ◌≤◌, ◌^◌, ◌∷◌, [], IfOk, IsTrue, List, Ok, Some, length, map, slice_get, true, ℕ};
+ghost use Rattle.mdcc_node_boot.specs.Loading.{AreWithinFrames, BootsUnless, HoldsFacts, LoadsUnless, boot_by, fact_read, is_boot_memory, loaded_by, read_fault, refusal, store_fault, with_next_boot};
 ghost use Rattle.mdcc_base.specs.Unless.{GivesUnless};
 ghost use Rattle.mdcc_def_messages.specs.Lengths.{fact_length};
 ghost use Rattle.mdcc_def_messages.specs.Reading.{fact_of};
 ghost use Rattle.mdcc_def_messages.specs.WellFormed.{IsWellFormedFact};
 ghost use Rattle.mdcc_def_messages.specs.declared.facts.Fact.{Fact as AFact};
+ghost use Rattle.mdcc_def_protocol.specs.Cells.{cells_held};
 ghost use Rattle.mdcc_parts.specs.Reads.{is_wire_memory as is_reading_memory};
 ghost use Rattle.mdcc_theorem_encoding.specs.Laws.{AreBytes};
 
@@ -53,20 +54,14 @@ fn read_fault(taken: u64, fault: WireFault) -> BootFault
 // ---- one payload after the other
 
 // Why a fact that is admitted is not taken: that it brings too many deltas comes before want of room.
-fn refusal<S: FactStore>(
-    store: &S,
-    cells: u64,
-    taken: u64,
-    fact: &Fact,
-    fault: StoreFault,
-) -> BootFault
+fn refusal<S: FactStore>(store: &S, taken: u64, fact: &Fact, fault: StoreFault) -> BootFault
     requires { taken < 2 ^ 64 - 1 }
-    ensures { (facts : List AFact) → S.stands store.now facts → result ≡ refusal cells facts taken fact.now fault }
+    ensures { (facts : List AFact) → S.stands store.now facts → result ≡ refusal (S.cells store.now) facts taken fact.now fault }
 {
     if store.would_crowd(fact) {
         BootFault::NotARun(taken + 1)
     } else {
-        store_fault(cells, taken, fault)
+        store_fault(store.cells(), taken, fault)
     }
 }
 
@@ -74,15 +69,14 @@ fn refusal<S: FactStore>(
 fn take_fact<S: FactStore>(
     cluster: &Cluster,
     store: &mut S,
-    cells: u64,
     taken: u64,
     fact: &Fact,
 ) -> Result<(), BootFault>
     requires counted { taken < 2 ^ 64 - 1 }
     requires well_formed { IsWellFormedFact fact.now }
     requires short { fact_length fact.now ≤ 2097152 }
-    ensures { (all : Cells) (facts : List AFact) → HoldsFacts S.stands S.room S.cells_for all store.old facts → all.total ≡ cells
-        → LoadsUnless is_boot_memory result (loaded_by all cluster.now facts taken (Some fact.now ∷ [])) (HoldsFacts S.stands S.room S.cells_for all store.new) }
+    ensures { (total : ℕ) (facts : List AFact) → HoldsFacts S.stands S.cells total store.old facts → cells_held facts ≤ total
+        → LoadsUnless is_boot_memory result (loaded_by total cluster.now facts taken (Some fact.now ∷ [])) (HoldsFacts S.stands S.cells total store.new) }
 {
     admission_is_exact();
     admitted_may_be_added();
@@ -91,7 +85,7 @@ fn take_fact<S: FactStore>(
     }
     match store.add(fact) {
         Ok(()) => Ok(()),
-        Err(fault) => Err(refusal(store, cells, taken, fact, fault)),
+        Err(fault) => Err(refusal(store, taken, fact, fault)),
     }
 }
 
@@ -120,17 +114,16 @@ fn take_payload<S: FactStore>(
     alloc: Global,
     cluster: &Cluster,
     store: &mut S,
-    cells: u64,
     taken: u64,
     payload: &[u8],
 ) -> Result<(), BootFault>
     requires counted { taken < 2 ^ 64 - 1 }
     requires short { length payload.now ≤ 2097152 }
-    ensures { (all : Cells) (facts : List AFact) → HoldsFacts S.stands S.room S.cells_for all store.old facts → all.total ≡ cells
-        → LoadsUnless is_boot_memory result (loaded_by all cluster.now facts taken (fact_read payload.now ∷ [])) (HoldsFacts S.stands S.room S.cells_for all store.new) }
+    ensures { (total : ℕ) (facts : List AFact) → HoldsFacts S.stands S.cells total store.old facts → cells_held facts ≤ total
+        → LoadsUnless is_boot_memory result (loaded_by total cluster.now facts taken (fact_read payload.now ∷ [])) (HoldsFacts S.stands S.cells total store.new) }
 {
     match read_payload(alloc, payload) {
-        Ok(fact) => take_fact(cluster, store, cells, taken, &fact),
+        Ok(fact) => take_fact(cluster, store, taken, &fact),
         Err(fault) => Err(read_fault(taken, fault)),
     }
 }
@@ -154,13 +147,12 @@ fn load<S: FactStore>(
     payloads: &[HeapList<u8>],
 ) -> Result<(), BootFault>
     requires { AreWithinFrames payloads.now }
-    ensures { (all : Cells) → HoldsFacts S.stands S.room S.cells_for all store.old []
-        → LoadsUnless is_boot_memory result (loaded_by all cluster.now [] 0 (map fact_read payloads.now)) (HoldsFacts S.stands S.room S.cells_for all store.new) }
+    ensures { (total : ℕ) → HoldsFacts S.stands S.cells total store.old []
+        → LoadsUnless is_boot_memory result (loaded_by total cluster.now [] 0 (map fact_read payloads.now)) (HoldsFacts S.stands S.cells total store.new) }
 {
-    let cells = store.spare();
     for place in 0..payloads.len() {
         let payload = payload_at(payloads, place);
-        match take_payload(alloc, cluster, store, cells, place as u64, payload) {
+        match take_payload(alloc, cluster, store, place as u64, payload) {
             Ok(()) => {}
             Err(fault) => return Err(fault),
         }
@@ -179,9 +171,9 @@ pub fn are_short(payloads: &[HeapList<u8>]) -> bool
 // ---- the boot
 
 // Adds the boot of the next epoch.
-fn begin_epoch<S: FactStore>(store: &mut S, cells: u64) -> Result<u32, BootFault>
-    ensures { (all : Cells) (facts : List AFact) → HoldsFacts S.stands S.room S.cells_for all store.old facts → all.total ≡ cells
-        → BootsUnless is_boot_memory result (with_next_boot all (Ok facts)) (HoldsFacts S.stands S.room S.cells_for all store.new) }
+fn begin_epoch<S: FactStore>(store: &mut S) -> Result<u32, BootFault>
+    ensures { (total : ℕ) (facts : List AFact) → HoldsFacts S.stands S.cells total store.old facts → cells_held facts ≤ total
+        → BootsUnless is_boot_memory result (with_next_boot total (Ok facts)) (HoldsFacts S.stands S.cells total store.new) }
 {
     let last = store.epoch();
     if last == u32::MAX {
@@ -190,7 +182,7 @@ fn begin_epoch<S: FactStore>(store: &mut S, cells: u64) -> Result<u32, BootFault
     let epoch = last + 1;
     match store.add(&Fact::Booted(epoch)) {
         Ok(()) => Ok(epoch),
-        Err(fault) => Err(store_fault(cells, 0, fault)),
+        Err(fault) => Err(store_fault(store.cells(), 0, fault)),
     }
 }
 
@@ -205,12 +197,11 @@ pub fn boot_store<S: FactStore>(
     payloads: &[HeapList<u8>],
 ) -> Result<u32, BootFault>
     requires short { AreWithinFrames payloads.now }
-    ensures { (all : Cells) → HoldsFacts S.stands S.room S.cells_for all store.old []
-        → BootsUnless is_boot_memory result (boot_by all cluster.now (map fact_read payloads.now)) (HoldsFacts S.stands S.room S.cells_for all store.new) }
+    ensures { (total : ℕ) → HoldsFacts S.stands S.cells total store.old []
+        → BootsUnless is_boot_memory result (boot_by total cluster.now (map fact_read payloads.now)) (HoldsFacts S.stands S.cells total store.new) }
 {
-    let cells = store.spare();
     match load(alloc, cluster, store, payloads) {
-        Ok(()) => begin_epoch(store, cells),
+        Ok(()) => begin_epoch(store),
         Err(fault) => Err(fault),
     }
 }
