@@ -34,9 +34,9 @@ use Rattle.mdcc_serve.proofs.Rounds.{part_then}
 use Rattle.mdcc_serve.proofs.Started.{comes_told, none_refused}
 use Rattle.mdcc_serve.specs.Centres.{AllFinish, AllLogs, AllStop, AllTold, Ascend, HoldSites, Places, TurnsStop, all_seen, places}
 use Rattle.mdcc_serve.specs.Ends.{AllButEnd, AllEnd, AllMade, SerialsFit, last_act}
-use Rattle.mdcc_serve.specs.Openings.{FailsToOpen, HasOpened, KeepLogs}
+use Rattle.mdcc_serve.specs.Openings.{FailsToOpen, HasOpened}
 use Rattle.mdcc_serve.specs.Others.{IsNoDiskOfSites, IsUnserved, KeepsElsewhere, KeepsUnserved}
-use Rattle.mdcc_serve.specs.Serving.{AreLogsOf, BreaksOff, HasSerials, Serves, ServesOrBreaksOff}
+use Rattle.mdcc_serve.specs.Serving.{AreLogsOf, BreaksOff, HasSerials, IsDurable, Serves, ServesOrBreaksOff, WhileOpening}
 use Rattle.mdcc_serve.specs.Stages.{InPart, StopsAt, after_turns, done_line}
 use Rattle.mdcc_serve.specs.Starts.{Follow}
 use Rattle.mdcc_serve.specs.Totals.{counts_of, done_of}
@@ -44,7 +44,7 @@ use Rattle.mdcc_serve.specs.declared.served.Served.{Served}
 use Rattle.mdcc_serve_site.proofs.Going.{comes_under}
 use Rattle.mdcc_serve_site.proofs.Joined.{caused_later, did_broke, did_then, facts_expected, facts_then, leaves_then, none_added, passes_then}
 use Rattle.mdcc_serve_site.proofs.Owns.{turn_owns}
-use Rattle.mdcc_serve_site.specs.Causes.{BootsRefused, ComesAt, IsNoBoot, failed_by, in_flight, text_begun}
+use Rattle.mdcc_serve_site.specs.Causes.{BootsRefused, ComesAt, IsNoBoot, IsSafeAt, failed_by, in_flight, text_begun}
 use Rattle.mdcc_serve_site.specs.Logs.{KeepsFacts, MayHaveFacts, facts_after}
 use Rattle.mdcc_serve_site.specs.Moments.{Adds, Broke, Caused, Did, Leaves, Moment, Outside, Passes}
 use Rattle.mdcc_serve_site.specs.Room.{OnFull}
@@ -295,9 +295,14 @@ module _ {D L O : Type 0} (w : Outside D L O) where
 
   -- ---- a prefix of the acts was done
 
+  -- each log has its facts and those that were appended, or perhaps those that were being appended too
+  abbrev HaveLogs : List Log → ServeFault → D → List Act → List Act → Type 0
+  HaveLogs logs fault new acts rest =
+      AllByRecursion (λ log. MayHaveFacts w.disk w.may_leave new log.centre (facts_after log.centre log.facts acts) (in_flight fault log.centre rest)) logs
+
   breaks : (tears : ℕ → Type 0) (config : Config) (due : w.every ≡ config.checkpoint) (logs : List Log) (turns : ℕ) (fault : ServeFault) (old new : Places D L O) {P : List Act → List Act → Type 0} {expected : List Act}
-      → (broke : Broke w ⊤ P expected fault (all_seen old) (all_seen new)) → BootsRefused config.cluster logs fault → StopsAt config logs turns fault broke.acts broke.rest
-      → KeepLogs w tears logs fault old.disks new.disks broke.acts broke.rest
+      → (broke : Broke w ⊤ P expected fault (all_seen old) (all_seen new)) → BootsRefused config.cluster logs fault → (stops : StopsAt config logs turns fault broke.acts broke.rest)
+      → (WhileOpening stops (AllByRecursion (IsDurable w.disk w.may_leave old.disks) logs × IsSafeAt tears fault broke.rest) → HaveLogs logs fault new.disks broke.acts broke.rest)
       → BreaksOff w.disk w.may_leave tears w.calls w.lost w.held config logs turns fault old.disks new.disks old.link new.link old.out new.out
   breaks tears config due logs turns fault old new broke boots stops kept = record {
     acts = broke.acts;
@@ -316,7 +321,7 @@ module _ {D L O : Type 0} (w : Outside D L O) where
       → BreaksOff w.disk w.may_leave tears w.calls w.lost w.held config logs turns fault old.disks new.disks old.link new.link old.out new.out
   start_breaks tears config due first last turns fault old new fails logs follow long are =
       let stop = fails.over logs follow long are in
-      breaks tears config due logs turns fault old new stop.broke stop.boots (inl (record { runs = stop.broke.are; serials = fails.serials })) stop.broke.logs
+      breaks tears config due logs turns fault old new stop.broke stop.boots (inl (record { runs = stop.broke.are; serials = fails.serials })) (λ asked. stop.broke.logs asked.0 asked.1)
 
   -- ---- centres that ran
 
@@ -338,11 +343,11 @@ module _ {D L O : Type 0} (w : Outside D L O) where
       module _ (fault : ServeFault) (before : List Act) (doing : Doing) (stop : AllStop w (map site_of logs) before doing fault mid new) where
         -- its log, and what was done
         abbrev Left : List Act → List Act → Type 0
-        Left acts rest = KeepLogs w tears logs fault old_disks new.disks acts rest × InPart ((opened config logs).acts ++ before) doing.acts acts rest
+        Left acts rest = HaveLogs logs fault new.disks acts rest × InPart ((opened config logs).acts ++ before) doing.acts acts rest
 
         part_left : (earlier acts rest : List Act) → but_answers earlier ≡ (opened config logs).acts → AllLogs w (map site_of logs) fault mid.disks new.disks acts rest × InPart before doing.acts acts rest → Left (earlier ++ acts) rest
         part_left earlier acts rest is q = (
-          (λ durable safe. logs_since fault mid.disks new.disks (opened config logs).acts earlier acts rest is logs (opened_facts config first logs follow) told_mid q.0),
+          logs_since fault mid.disks new.disks (opened config logs).acts earlier acts rest is logs (opened_facts config first logs follow) told_mid q.0,
           part_then (opened config logs).acts before doing.acts earlier acts rest is q.1,
         )
 
@@ -360,8 +365,8 @@ module _ {D L O : Type 0} (w : Outside D L O) where
             (ap (λ (xs : List Act). (opened config logs).acts ++ xs) is
             ∙ (sym (append_assoc (opened config logs).acts (turned config logs given).acts own) ∙ ap (λ (xs : List Act). xs ++ own) (sym (turned_acts config logs given)))) part
 
-        part_breaks : StopsAt config logs turns fault part_broke.acts part_broke.rest → BreaksOff w.disk w.may_leave tears w.calls w.lost w.held config logs turns fault old_disks new.disks old_link new.link old_out new.out
-        part_breaks stops = breaks tears config due logs turns fault first_place new part_broke (none_refused config.cluster logs fault stop.no_boot) stops part_broke.logs.0
+        part_breaks : (stops : StopsAt config logs turns fault part_broke.acts part_broke.rest) → BreaksOff w.disk w.may_leave tears w.calls w.lost w.held config logs turns fault old_disks new.disks old_link new.link old_out new.out
+        part_breaks stops = breaks tears config due logs turns fault first_place new part_broke (none_refused config.cluster logs fault stop.no_boot) stops (λ asked. part_broke.logs.0)
 
       -- in a turn
       turn_breaks : (fault : ServeFault) → TurnsStop w config (map site_of logs) turns fault mid new
@@ -487,7 +492,7 @@ module _ {D L O : Type 0} (w : Outside D L O) where
               ];
               printed_more = prints.more;
               left = record { link = done.link; output = done.output; failed_sends = done.failed_sends };
-              kept = λ durable safe.
+              kept = λ asked.
                   logs_end fault config.cluster new.disks (opened config logs).acts (ended config logs given).acts ran.acts (Act.Print (done_line turns ran.acts) ∷ []) (opened_plain config logs) (ran.are ∙ acts_are config logs given)
                   logs new.held (ended config logs given).sites (opened_facts config first logs follow) told_new grew all.finish.stand;
             }

@@ -1,7 +1,8 @@
 -- What a server does from its start to its last turn, and what is seen of it where it ends before.
 use Rattle.std.specs.Io.KnownBytes.{Appends}
 use Rattle.std.specs.List.{AllByRecursion}
-use Rattle.std.specs.Prelude.{Err, IsTrue, List, Ok, Option, Result, [], length, take, ℕ, ◌+◌, ◌++◌, ◌<◌, ◌^◌, ◌∷◌, ◌≡◌, ◌≤◌}
+use Rattle.std.proofs.Common.{inl, inr}
+use Rattle.std.specs.Prelude.{Err, IsTrue, List, Ok, Option, Result, [], length, take, ⊤, ℕ, ◌+◌, ◌++◌, ◌<◌, ◌^◌, ◌∷◌, ◌≡◌, ◌≤◌, ◌⊎◌}
 use Rattle.mdcc_base.specs.Causes.{Rose}
 use Rattle.mdcc_config.specs.declared.config.Config.{Config}
 use Rattle.mdcc_disks.specs.Disks.{Disk, Only}
@@ -50,6 +51,11 @@ AreLogsOf disk cluster disks logs = AllByRecursion (IsServedLog disk cluster dis
 
 -- ---- what it left
 
+-- something is asked only where it ended while it opened
+abbrev pub WhileOpening : {Opening Later : Type 0} → Opening ⊎ Later → Type 0 → Type 0
+WhileOpening (inl opening) asked = asked
+WhileOpening (inr later) asked = ⊤
+
 -- A crash before it leaves the log as it is.
 pub record IsDurable {D : Type 0} (disk : D → ℕ → Disk) (may_leave : D → ℕ → List ℕ → Type 0) (disks : D) (log : Log) : Type 0 where
   pub first : Only (disk disks log.centre).bytes (may_leave disks log.centre)
@@ -75,9 +81,9 @@ module _ {D L O : Type 0} (disk : D → ℕ → Disk) (may_leave : D → ℕ →
     pub dropped_told : result.dropped ≡ count_limited (dropped_in acts)
     pub lost_told : result.lost ≡ count_limited (lost_in acts)
 
-  -- It ended before: of the turns that were made a prefix of the acts was done, and this is what comes next. A log that was durable has
-  -- the facts that were appended, or where its disk failed perhaps those that were being appended too, all of them, whatever a crash
-  -- leaves of it; at a boot, where the log is opened, so it is on disks that tear no byte to 1.
+  -- It ended before: of the turns that were made a prefix of the acts was done, and this is what comes next. A log has the facts that
+  -- were appended, or where its disk failed perhaps those that were being appended too, all of them, whatever a crash leaves of it;
+  -- where it ended while it opened, so it is of logs that were durable, and at a boot on disks that tear no byte to 1.
   pub record BreaksOff (config : Config) (logs : List Log) (turns : ℕ) (fault : ServeFault) (disks_old disks : D) (link_old link_new : L) (out_old out_new : O) : Type 0 where
     pub acts : List Act
     pub rest : List Act
@@ -88,7 +94,8 @@ module _ {D L O : Type 0} (disk : D → ℕ → Disk) (may_leave : D → ℕ →
     pub full : OnFull disk may_leave config.checkpoint disks fault rest
     pub printed_more : ℕ
     pub left : Leaves acts (failed_by fault rest) (take printed_more (text_begun fault rest)) link_old link_new out_old out_new
-    pub kept : AllByRecursion (IsDurable disk may_leave disks_old) logs → IsSafeAt tears fault rest → AllByRecursion (λ log. MayHaveFacts disk may_leave disks log.centre (facts_after log.centre log.facts acts) (in_flight fault log.centre rest)) logs
+    pub kept : WhileOpening stops (AllByRecursion (IsDurable disk may_leave disks_old) logs × IsSafeAt tears fault rest)
+        → AllByRecursion (λ log. MayHaveFacts disk may_leave disks log.centre (facts_after log.centre log.facts acts) (in_flight fault log.centre rest)) logs
 
   abbrev pub ServesOrBreaksOff : Config → List Log → ℕ → Result Served ServeFault → D → D → L → L → O → O → Type 0
   ServesOrBreaksOff config logs turns (Ok result) disks_old disks link_old link_new out_old out_new = Serves config logs turns result disks link_old link_new out_old out_new

@@ -1,0 +1,49 @@
+-- What is seen of the disks, the link and the output of a process that is killed.
+use Rattle.std.specs.Prelude.{List, None, Option, get_or, min, suc, zero, ℕ, ◌+◌, ◌-◌, ◌^◌, ◌≡◌, ◌≢◌, ◌≤◌}
+use Rattle.mdcc_disks.specs.Disks.{Disk}
+use Rattle.mdcc_killed.specs.declared.disks.KilledDisks.{KilledDisks}
+use Rattle.mdcc_killed.specs.declared.link.KilledLink.{KilledLink}
+use Rattle.mdcc_killed.specs.declared.output.KilledOutput.{KilledOutput}
+use Rattle.mdcc_link.specs.Link.{LinkCall}
+
+-- ---- calls that were not made
+
+-- a count of calls goes up, until it stands still
+abbrev pub one_more : ℕ → ℕ
+one_more n = min (n + 1) (2 ^ 64 - 1)
+
+-- one call more was not made at a place
+pub record IsMissedAt (place : ℕ) (old new : List ℕ) : Type 0 where
+  pub here : get_or new place 0 ≡ one_more (get_or old place 0)
+  pub later : get_or old place 0 ≤ get_or new place 0
+  pub elsewhere : (p : ℕ) → p ≢ place → get_or new p 0 ≡ get_or old p 0
+
+-- the calls that are recorded, where so many were not made: from the first of them on none are
+abbrev pub calls_told : {C : Type 0} → ℕ → Option C → Option C
+calls_told zero calls = calls
+calls_told (suc missed) calls = None
+
+-- ---- as the process sees them
+
+-- Each call that was not made failed. A disk has the bytes that it has, and a crash leaves of it what it may.
+abbrev pub disk_of : {D : Type 0} → (D → ℕ → Disk) → KilledDisks D → ℕ → Disk
+disk_of disk killed p =
+    let missed = get_or killed.missed p 0 in
+    record {
+      told = (disk killed.disks p).told;
+      bytes = (disk killed.disks p).bytes;
+      calls = calls_told missed (disk killed.disks p).calls;
+      faults = (disk killed.disks p).faults + missed;
+    }
+
+abbrev pub may_leave_of : {D : Type 0} → (D → ℕ → List ℕ → Type 0) → KilledDisks D → ℕ → List ℕ → Type 0
+may_leave_of may_leave killed = may_leave killed.disks
+
+abbrev pub calls_of : {L : Type 0} → (L → Option (List LinkCall)) → KilledLink L → Option (List LinkCall)
+calls_of calls killed = calls_told (killed.unsent + killed.missed) (calls killed.link)
+
+abbrev pub lost_of : {L : Type 0} → (L → ℕ) → KilledLink L → ℕ
+lost_of lost killed = lost killed.link + killed.unsent
+
+abbrev pub held_of : {O : Type 0} → (O → Option (List ℕ)) → KilledOutput O → Option (List ℕ)
+held_of held killed = held killed.output

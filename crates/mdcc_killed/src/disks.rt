@@ -1,0 +1,98 @@
+//! Disks that a killed process does not reach any more.
+ghost use Rattle.std.specs.Prelude.{◌≡◌, true, false, replicate};
+ghost use Rattle.mdcc_killed.specs.Killed.{IsMissedAt, disk_of, may_leave_of};
+
+use mdcc_base::Failed;
+use mdcc_disks::Disks;
+
+/// The disks of a process that is killed after so many calls of them. These are made as by any process; of those that would come later
+/// none is, and to the process it is as if each of them failed. A kill inside a call is one after it, at disks where this call
+/// fails: such a call may have done any part of its work.
+#[derive(Drop)]
+pub struct KilledDisks<D> {
+    /// The disks themselves, as the process leaves them.
+    pub disks: D,
+    /// How many calls are made until it is killed.
+    pub left: u64,
+    /// For each place, how many calls were not made. The counts stand still at 2^64 - 1.
+    pub missed: [u64; 256],
+}
+
+impl<D: Disks> KilledDisks<D> {
+    /// The disks of a process that is killed after so many calls.
+    pub fn new(disks: D, left: u64) -> KilledDisks<D>
+        ensures { result ≡ record { disks = disks; left = left; missed = replicate 256 0 } }
+    {
+        KilledDisks {
+            disks,
+            left,
+            missed: [0; 256],
+        }
+    }
+
+    // Whether one more call is made. One that is not made is counted.
+    fn reaches(&mut self, place: u8) -> bool
+        ensures reached { result ≡ true → (self.new.disks ≡ self.old.disks) × (self.new.missed ≡ self.old.missed) }
+        ensures killed { result ≡ false → (self.new.disks ≡ self.old.disks) × IsMissedAt place self.old.missed self.new.missed }
+    {
+        if self.left == 0 {
+            self.missed[place as usize] = self.missed[place as usize].saturating_add(1);
+            return false;
+        }
+        self.left -= 1;
+        true
+    }
+}
+
+impl<D: Disks> Disks for KilledDisks<D> {
+    ghost disk = { disk_of D.disk };
+
+    ghost may_leave = { may_leave_of D.may_leave };
+
+    ghost tears = { D.tears };
+
+    ghost moment = { λ killed. D.moment killed.disks };
+
+    ghost left_since = { λ killed. D.left_since killed.disks };
+
+    ghost counts_now = { λ killed p t c. D.counts_now killed.disks p t c };
+
+    ghost only_now = { λ killed p c. D.only_now killed.disks p c };
+
+    ghost as_read = { λ killed p. D.as_read killed.disks p };
+
+    fn length(&mut self, place: u8) -> Result<u64, Failed> {
+        if !self.reaches(place) {
+            return Err(Failed);
+        }
+        self.disks.length(place)
+    }
+
+    fn read(&mut self, place: u8, offset: u64, into: &mut [u8]) -> Result<usize, Failed> {
+        if !self.reaches(place) {
+            return Err(Failed);
+        }
+        self.disks.read(place, offset, into)
+    }
+
+    fn write_at(&mut self, place: u8, offset: u64, bytes: &[u8]) -> Result<(), Failed> {
+        if !self.reaches(place) {
+            return Err(Failed);
+        }
+        self.disks.write_at(place, offset, bytes)
+    }
+
+    fn cut(&mut self, place: u8, size: u64) -> Result<(), Failed> {
+        if !self.reaches(place) {
+            return Err(Failed);
+        }
+        self.disks.cut(place, size)
+    }
+
+    fn sync(&mut self, place: u8) -> Result<(), Failed> {
+        if !self.reaches(place) {
+            return Err(Failed);
+        }
+        self.disks.sync(place)
+    }
+}

@@ -1,0 +1,81 @@
+//! A link that a killed process does not reach any more.
+ghost use Rattle.std.specs.Prelude.{◌≡◌, ◌+◌};
+ghost use Rattle.mdcc_killed.specs.Killed.{calls_of, lost_of};
+
+use mdcc_base::{Address, Failed};
+use mdcc_link::{Link, Received};
+
+/// The link of a process that is killed after so many calls of it: of those that would come later none is made, and to the process it is
+/// as if each of them failed.
+#[derive(Drop)]
+pub struct KilledLink<L> {
+    /// The link itself, as the process leaves it.
+    pub link: L,
+    /// How many calls are made until it is killed.
+    pub left: u64,
+    /// How many sends were not made. The counts stand still at 2^64 - 1.
+    pub unsent: u64,
+    /// How many binds and receives were not made.
+    pub missed: u64,
+}
+
+impl<L: Link> KilledLink<L> {
+    /// The link of a process that is killed after so many calls.
+    pub fn new(link: L, left: u64) -> KilledLink<L>
+        ensures { result ≡ record { link = link; left = left; unsent = 0; missed = 0 } }
+    {
+        KilledLink {
+            link,
+            left,
+            unsent: 0,
+            missed: 0,
+        }
+    }
+}
+
+impl<L: Link> Link for KilledLink<L> {
+    ghost calls = { calls_of L.calls };
+
+    ghost lost = { lost_of L.lost };
+
+    ghost faults = { λ killed. L.faults killed.link + killed.missed };
+
+    ghost waiting = { λ killed. L.waiting killed.link };
+
+    fn bind(&mut self, at: u8, address: Address) -> Result<(), Failed> {
+        if self.left == 0 {
+            self.missed = self.missed.saturating_add(1);
+            return Err(Failed);
+        }
+        self.left -= 1;
+        self.link.bind(at, address)
+    }
+
+    fn send(&mut self, from: u8, to: Address, bytes: &[u8]) -> Result<(), Failed> {
+        if self.left == 0 {
+            self.unsent = self.unsent.saturating_add(1);
+            return Err(Failed);
+        }
+        self.left -= 1;
+        self.link.send(from, to, bytes)
+    }
+
+    fn receive(&mut self, at: u8, into: &mut [u8]) -> Result<Received, Failed> {
+        if self.left == 0 {
+            self.missed = self.missed.saturating_add(1);
+            return Err(Failed);
+        }
+        self.left -= 1;
+        self.link.receive(at, into)
+    }
+
+    fn waits(&self, at: u8) -> bool {
+        self.link.waits(at)
+    }
+
+    fn set_wait(&mut self, milliseconds: u16) {
+        if self.left > 0 {
+            self.link.set_wait(milliseconds);
+        }
+    }
+}
