@@ -1,5 +1,6 @@
 -- What is seen of the disks, the link and the output of a process that is killed.
-use Rattle.std.specs.Prelude.{List, None, Option, get_or, min, suc, zero, ℕ, ◌+◌, ◌-◌, ◌^◌, ◌≡◌, ◌≢◌, ◌≤◌}
+use Rattle.std.specs.Prelude.{List, None, Option, get_or, suc, zero, ℕ, ◌+◌, ◌≡◌, ◌≢◌, ◌≤◌}
+use Rattle.mdcc_base.specs.Scripts.{one_more}
 use Rattle.mdcc_disks.specs.Disks.{Disk}
 use Rattle.mdcc_killed.specs.declared.disks.KilledDisks.{KilledDisks}
 use Rattle.mdcc_killed.specs.declared.link.KilledLink.{KilledLink}
@@ -7,10 +8,6 @@ use Rattle.mdcc_killed.specs.declared.output.KilledOutput.{KilledOutput}
 use Rattle.mdcc_link.specs.Link.{LinkCall}
 
 -- ---- calls that were not made
-
--- a count of calls goes up, until it stands still
-abbrev pub one_more : ℕ → ℕ
-one_more n = min (n + 1) (2 ^ 64 - 1)
 
 -- one call more was not made at a place
 pub record IsMissedAt (place : ℕ) (old new : List ℕ) : Type 0 where
@@ -26,8 +23,8 @@ calls_told (suc missed) calls = None
 -- ---- as the process sees them
 
 -- Each call that was not made failed. A disk has the bytes that it has, and a crash leaves of it what it may.
-abbrev pub disk_of : {D : Type 0} → (D → ℕ → Disk) → KilledDisks D → ℕ → Disk
-disk_of disk killed p =
+abbrev pub disk_of_killed : {D : Type 0} → (D → ℕ → Disk) → KilledDisks D → ℕ → Disk
+disk_of_killed disk killed p =
     let missed = get_or killed.missed p 0 in
     record {
       told = (disk killed.disks p).told;
@@ -36,14 +33,14 @@ disk_of disk killed p =
       faults = (disk killed.disks p).faults + missed;
     }
 
-abbrev pub may_leave_of : {D : Type 0} → (D → ℕ → List ℕ → Type 0) → KilledDisks D → ℕ → List ℕ → Type 0
-may_leave_of may_leave killed = may_leave killed.disks
+abbrev pub may_leave_of_killed : {D : Type 0} → (D → ℕ → List ℕ → Type 0) → KilledDisks D → ℕ → List ℕ → Type 0
+may_leave_of_killed may_leave killed = may_leave killed.disks
 
-abbrev pub calls_of : {L : Type 0} → (L → Option (List LinkCall)) → KilledLink L → Option (List LinkCall)
-calls_of calls killed = calls_told (killed.unsent + killed.missed) (calls killed.link)
+abbrev pub calls_of_killed : {L : Type 0} → (L → Option (List LinkCall)) → KilledLink L → Option (List LinkCall)
+calls_of_killed calls killed = calls_told (killed.unsent + killed.missed) (calls killed.link)
 
-abbrev pub lost_of : {L : Type 0} → (L → ℕ) → KilledLink L → ℕ
-lost_of lost killed = lost killed.link + killed.unsent
+abbrev pub lost_of_killed : {L : Type 0} → (L → ℕ) → KilledLink L → ℕ
+lost_of_killed lost killed = lost killed.link + killed.unsent
 
-abbrev pub held_of : {O : Type 0} → (O → Option (List ℕ)) → KilledOutput O → Option (List ℕ)
-held_of held killed = held killed.output
+abbrev pub held_of_killed : {O : Type 0} → (O → Option (List ℕ)) → KilledOutput O → Option (List ℕ)
+held_of_killed held killed = held killed.output

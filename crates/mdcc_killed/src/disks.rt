@@ -1,6 +1,6 @@
 //! Disks that a killed process does not reach any more.
 ghost use Rattle.std.specs.Prelude.{◌≡◌, true, false, replicate};
-ghost use Rattle.mdcc_killed.specs.Killed.{IsMissedAt, disk_of, may_leave_of};
+ghost use Rattle.mdcc_killed.specs.Killed.{IsMissedAt, disk_of_killed, may_leave_of_killed};
 
 use mdcc_base::Failed;
 use mdcc_disks::Disks;
@@ -45,9 +45,9 @@ impl<D: Disks> KilledDisks<D> {
 }
 
 impl<D: Disks> Disks for KilledDisks<D> {
-    ghost disk = { disk_of D.disk };
+    ghost disk = { disk_of_killed D.disk };
 
-    ghost may_leave = { may_leave_of D.may_leave };
+    ghost may_leave = { may_leave_of_killed D.may_leave };
 
     ghost tears = { D.tears };
 

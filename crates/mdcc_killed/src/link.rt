@@ -1,6 +1,6 @@
 //! A link that a killed process does not reach any more.
 ghost use Rattle.std.specs.Prelude.{◌≡◌, ◌+◌};
-ghost use Rattle.mdcc_killed.specs.Killed.{calls_of, lost_of};
+ghost use Rattle.mdcc_killed.specs.Killed.{calls_of_killed, lost_of_killed};
 
 use mdcc_base::{Address, Failed};
 use mdcc_link::{Link, Received};
@@ -34,9 +34,9 @@ impl<L: Link> KilledLink<L> {
 }
 
 impl<L: Link> Link for KilledLink<L> {
-    ghost calls = { calls_of L.calls };
+    ghost calls = { calls_of_killed L.calls };
 
-    ghost lost = { lost_of L.lost };
+    ghost lost = { lost_of_killed L.lost };
 
     ghost faults = { λ killed. L.faults killed.link + killed.missed };
 

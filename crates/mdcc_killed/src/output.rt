@@ -1,6 +1,6 @@
 //! An output that a killed process does not reach any more.
 ghost use Rattle.std.specs.Prelude.{◌≡◌, ◌+◌};
-ghost use Rattle.mdcc_killed.specs.Killed.{held_of};
+ghost use Rattle.mdcc_killed.specs.Killed.{held_of_killed};
 
 use mdcc_base::{Failed, Sink};
 
@@ -30,7 +30,7 @@ impl<O: Sink> KilledOutput<O> {
 }
 
 impl<O: Sink> Sink for KilledOutput<O> {
-    ghost held = { held_of O.held };
+    ghost held = { held_of_killed O.held };
 
     ghost faults = { λ killed. O.faults killed.output + killed.missed };
 

@@ -296,13 +296,13 @@ module _ {D L O : Type 0} (w : Outside D L O) where
   -- ---- a prefix of the acts was done
 
   -- each log has its facts and those that were appended, or perhaps those that were being appended too
-  abbrev HaveLogs : List Log → ServeFault → D → List Act → List Act → Type 0
-  HaveLogs logs fault new acts rest =
+  abbrev AllKeep : List Log → ServeFault → D → List Act → List Act → Type 0
+  AllKeep logs fault new acts rest =
       AllByRecursion (λ log. MayHaveFacts w.disk w.may_leave new log.centre (facts_after log.centre log.facts acts) (in_flight fault log.centre rest)) logs
 
   breaks : (tears : ℕ → Type 0) (config : Config) (due : w.every ≡ config.checkpoint) (logs : List Log) (turns : ℕ) (fault : ServeFault) (old new : Places D L O) {P : List Act → List Act → Type 0} {expected : List Act}
       → (broke : Broke w ⊤ P expected fault (all_seen old) (all_seen new)) → BootsRefused config.cluster logs fault → (stops : StopsAt config logs turns fault broke.acts broke.rest)
-      → (WhileOpening stops (AllByRecursion (IsDurable w.disk w.may_leave old.disks) logs × IsSafeAt tears fault broke.rest) → HaveLogs logs fault new.disks broke.acts broke.rest)
+      → (WhileOpening stops (AllByRecursion (IsDurable w.disk w.may_leave old.disks) logs × IsSafeAt tears fault broke.rest) → AllKeep logs fault new.disks broke.acts broke.rest)
       → BreaksOff w.disk w.may_leave tears w.calls w.lost w.held config logs turns fault old.disks new.disks old.link new.link old.out new.out
   breaks tears config due logs turns fault old new broke boots stops kept = record {
     acts = broke.acts;
@@ -343,7 +343,7 @@ module _ {D L O : Type 0} (w : Outside D L O) where
       module _ (fault : ServeFault) (before : List Act) (doing : Doing) (stop : AllStop w (map site_of logs) before doing fault mid new) where
         -- its log, and what was done
         abbrev Left : List Act → List Act → Type 0
-        Left acts rest = HaveLogs logs fault new.disks acts rest × InPart ((opened config logs).acts ++ before) doing.acts acts rest
+        Left acts rest = AllKeep logs fault new.disks acts rest × InPart ((opened config logs).acts ++ before) doing.acts acts rest
 
         part_left : (earlier acts rest : List Act) → but_answers earlier ≡ (opened config logs).acts → AllLogs w (map site_of logs) fault mid.disks new.disks acts rest × InPart before doing.acts acts rest → Left (earlier ++ acts) rest
         part_left earlier acts rest is q = (
