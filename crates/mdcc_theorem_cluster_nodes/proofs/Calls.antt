@@ -1,7 +1,8 @@
 -- A call is a life.
-use Rattle.std.proofs.Common.{Err, List, Ok, Option, Result, [], ap, append-nil, inl, inr, refl, subst, sym, ℕ, ◌+◌, ◌++◌, ◌∙◌, ◌∷◌, ◌≡◌}
+use Rattle.std.proofs.Common.{Err, List, Ok, Option, Result, [], ap, append-nil, inl, inr, refl, subst, sym, ℕ, ◌+◌, ◌++◌, ◌∙◌, ◌∷◌, ◌≡◌, ◌⊎◌}
 use Rattle.std.specs.List.{AllByRecursion}
 use Rattle.std.specs.Prelude.{take}
+use Rattle.mdcc_node_log.specs.Logged.{AreLogged}
 use Rattle.mdcc_config.specs.declared.config.Config.{Config}
 use Rattle.mdcc_disks.specs.Disks.{Disk}
 use Rattle.mdcc_link.specs.Link.{LinkCall}
@@ -13,7 +14,7 @@ use Rattle.mdcc_def_server_runs.specs.Acts.{Act, but_answers, facts_appended}
 use Rattle.mdcc_def_server_runs.specs.Servers.{Log}
 use Rattle.mdcc_def_server_runs.specs.Sites.{Site}
 use Rattle.mdcc_def_server_runs.specs.Turns.{Given}
-use Rattle.mdcc_serve.specs.Serving.{HasSerials, Leaves}
+use Rattle.mdcc_serve.specs.Serving.{HasSerials, IsServedLog, Leaves, WhileOpening}
 use Rattle.mdcc_serve.specs.Stages.{done_line}
 use Rattle.mdcc_serve.specs.declared.served.Served.{Served}
 use Rattle.mdcc_serve_site.specs.Causes.{failed_by, in_flight, text_begun}
@@ -24,8 +25,15 @@ use Rattle.mdcc_theorem_server_lives.specs.Lives.{Life, MayKeep, Serves as Servi
 use Rattle.mdcc_theorem_cluster_nodes.proofs.Ends.{kept-read, last, last-centre, leaves, same-all}
 use Rattle.mdcc_theorem_cluster_nodes.proofs.Single.{served-acts, served-site}
 use Rattle.mdcc_theorem_cluster_nodes.proofs.Stops.{stops-left}
-use Rattle.mdcc_theorem_cluster_nodes.specs.Calls.{CallsAreLives, Clause, IsGranted, Setting, acts_done}
+use Rattle.mdcc_theorem_cluster_nodes.specs.Areas.{Areas}
+use Rattle.mdcc_theorem_cluster_nodes.specs.Calls.{Call, CallsAreLives, Clause, IsGranted, Setting, acts_done}
+use Rattle.mdcc_theorem_cluster_nodes.specs.Clusters.{IsCalled, Lives, LivesOver}
 use Rattle.mdcc_theorem_cluster_nodes.specs.Turns.{given_before}
+
+-- what is asked while it opened gives this
+asked-then : {Opening Later P Q : Type 0} (stops : Opening ⊎ Later) → (P → Q) → WhileOpening stops P → WhileOpening stops Q
+asked-then (inl opening) gives asked = gives asked
+asked-then (inr later) gives asked = tt
 
 module _ {D L O : Type 0} (disk : D → ℕ → Disk) (may_leave : D → ℕ → List ℕ → Type 0) (tears : ℕ → Type 0) (calls : L → Option (List LinkCall)) (lost : L → ℕ) (held : O → Option (List ℕ)) where
   abbrev ClauseOf : Config → Log → Setting disk may_leave tears calls lost held → Result Served ServeFault → Type 0
@@ -122,7 +130,7 @@ module _ {D L O : Type 0} (disk : D → ℕ → Disk) (may_leave : D → ℕ →
             (sym (append-nil s.acts)) s.left;
         read = read;
       } in
-      elim ((s.kept (granted.kept.0, tt) granted.kept.1).0 first second one two) [
+      elim ((s.kept (asked-then s.stops (λ asked. ((asked.0, tt), asked.1)) granted.kept)).0 first second one two) [
         | inl read ↦ becomes facts (inl refl) (λ none. refl) read
         | inr read ↦ elim (stop.next log.centre) [
           | inl none ↦ becomes facts (inl refl) (λ e. refl) (read ∙ ap (λ (more : List Fact). Ok (encodings_of (onto facts more))) none)
@@ -151,3 +159,32 @@ module _ {D L O : Type 0} (disk : D → ℕ → Disk) (may_leave : D → ℕ →
           kept = b.read;
         },
       )
+
+  -- ---- over the areas that it finds
+
+  called-at : (config : Config) (a : ℕ) (found : Areas) (acts : List Act) (left : Areas) → IsCalled disk may_leave tears calls lost held config a found acts left → (facts : List Fact)
+      → payloads found.first found.second ≡ Ok (encodings_of facts) → AreLogged config.cluster facts → LivesOver config (record { centre = a; facts = facts }) acts left
+  called-at config a found acts left c facts read allowed =
+      let log : Log = record { centre = a; facts = facts } in
+      let has : IsServedLog disk config.cluster c.at.disks_before log = record {
+        told = c.told.first;
+        told_other = c.told.second;
+        has = ap (λ (bytes : List ℕ). payloads bytes (disk c.at.disks_before (a + 16)).bytes) c.first ∙ (ap (payloads found.first) c.second ∙ read);
+        allowed = allowed;
+      } in
+      let call : Call disk may_leave tears calls lost held config = record { log = log; at = c.at; result = c.result; serves = c.serves log refl has } in
+      let lived = calls-are-lives config call (c.granted log refl has) left.first left.second c.left_first c.left_second in
+      let life : Life = lived.0 in
+      let l = lived.1 in
+      record {
+        life = life;
+        is = l.of;
+        log_is = ap (λ (n : ℕ). record { centre = n; facts = life.log }) l.centre ∙ ap (λ (all : List Fact). record { centre = a; facts = all }) l.log;
+        acts_are = l.acts ∙ sym (c.acts_are log refl has);
+        read = l.kept;
+      }
+
+  pub called-lives : (config : Config) (a : ℕ) (found : Areas) (acts : List Act) (left : Areas) → IsCalled disk may_leave tears calls lost held config a found acts left → Lives config a found acts left
+  called-lives config a found acts left c log own read allowed =
+      let same : record { centre = a; facts = log.facts } ≡ log = ap (λ (n : ℕ). record { centre = n; facts = log.facts }) (sym own) in
+      subst (λ (l : Log). LivesOver config l acts left) same (called-at config a found acts left c log.facts read allowed)

@@ -131,38 +131,52 @@ module _ {D L O : Type 0} (disk : D → ℕ → Disk) (may_leave : D → ℕ →
             let own : List Act = acts_by c t.own in
             let facts : List Fact = log_after c log.facts own in
             let same : facts_after c log.facts s.acts ≡ facts = ap (onto log.facts) (own-facts config logs turns l.each s.acts l.left t c) in
-            let lived : (kept : List Fact) → MayKeep c facts (acts_by c t.others) kept → payloads found.first found.second ≡ Ok (encodings_of kept) → LivesOver config log own found = λ kept m read.
+            let flight_of : List Fact = in_flight fault c s.rest in
+            let lived : (kept : List Fact) → MayKeep c facts (acts_by c t.others) kept → (flight_of ≡ [] → kept ≡ facts) → payloads found.first found.second ≡ Ok (encodings_of kept) → LivesOver config log own found = λ kept m none read.
             record {
               life = record { centre = c; log = log.facts; acts = own; kept = kept };
               is = record {
                 centre = granted.centre;
-                lived = inl (record {
-                  given = given_at (length among.before) turns;
-                  ending = Ending.Whole;
-                  rest = acts_by c t.others;
-                  acts = own-acts config logs turns l.each s.acts l.left t log among;
-                  kept = m;
-                  boots = granted.boots;
-                  bytes = granted.fits.bytes;
-                  last_bytes = tt;
-                  serials = granted.fits.serials;
-                });
+                lived = inl (elim granted.fits [
+                  | inl w ↦ record {
+                    given = given_at (length among.before) turns;
+                    ending = Ending.Whole;
+                    rest = acts_by c t.others;
+                    acts = own-acts config logs turns l.each s.acts l.left t log among;
+                    kept = m;
+                    boots = granted.boots;
+                    bytes = w.bytes;
+                    last_bytes = tt;
+                    serials = w.serials;
+                  }
+                  | inr f ↦ record {
+                    given = f.given;
+                    ending = Ending.Short f.last f.few;
+                    rest = f.rest;
+                    acts = f.are;
+                    kept = inl (none f.none);
+                    boots = granted.boots;
+                    bytes = f.bytes;
+                    last_bytes = f.last_bytes;
+                    serials = f.serials;
+                  }
+                ]);
               };
               log_is = refl;
               acts_are = refl;
               read = read;
             } in
             let may = all-at (λ (x : Log). MayHaveFacts disk may_leave at.disks_after x.centre (facts_after x.centre x.facts s.acts) (in_flight fault x.centre s.rest)) among.before log among.after
-            (subst (AllByRecursion (λ (x : Log). MayHaveFacts disk may_leave at.disks_after x.centre (facts_after x.centre x.facts s.acts) (in_flight fault x.centre s.rest))) among.are (s.kept safe.0 safe.1)) found.first found.second one two in
+            (subst (AllByRecursion (λ (x : Log). MayHaveFacts disk may_leave at.disks_after x.centre (facts_after x.centre x.facts s.acts) (in_flight fault x.centre s.rest))) among.are (s.kept safe)) found.first found.second one two in
             let plain : (more : List Fact) → more ≡ [] → payloads found.first found.second ≡ Ok (encodings_of (onto (facts_after c log.facts s.acts) more)) → LivesOver config log own found = λ more none read.
-            lived facts (inl refl) (read ∙ (ap (λ (xs : List Fact). Ok (encodings_of (onto (facts_after c log.facts s.acts) xs))) none ∙ ap (λ (xs : List Fact). Ok (encodings_of xs)) same)) in
+            lived facts (inl refl) (λ e. refl) (read ∙ (ap (λ (xs : List Fact). Ok (encodings_of (onto (facts_after c log.facts s.acts) xs))) none ∙ ap (λ (xs : List Fact). Ok (encodings_of xs)) same)) in
             elim may [
               | inl read ↦ plain [] refl read
               | inr read ↦ elim (l.next c) [
                 | inl none ↦ plain (in_flight fault c s.rest) none read
                 | inr some ↦ elim (flight config logs turns l.each s.acts l.left t c) [
                   | inl none ↦ plain (in_flight fault c s.rest) (some ∙ none) read
-                  | inr more ↦ lived (onto facts (in_flight_of c (acts_by c t.others))) (inr refl)
+                  | inr more ↦ lived (onto facts (in_flight_of c (acts_by c t.others))) (inr refl) (λ e. ap (onto facts) (sym more ∙ (sym some ∙ e)))
                       (read ∙ (ap (λ (xs : List Fact). Ok (encodings_of (onto (facts_after c log.facts s.acts) xs))) (some ∙ more)
                       ∙ ap (λ (xs : List Fact). Ok (encodings_of (onto xs (in_flight_of c (acts_by c t.others))))) same))
                 ]

@@ -9,6 +9,7 @@ use Rattle.mdcc_node_log.specs.Logged.{AreLogged}
 use Rattle.mdcc_config.specs.IsConfig.{IsConfig}
 use Rattle.mdcc_config.specs.declared.config.Config.{Config}
 use Rattle.mdcc_disks.specs.Disks.{Disk}
+use Rattle.mdcc_killed.specs.Killed.{calls_of_killed, disk_of_killed, held_of_killed, lost_of_killed, may_leave_of_killed}
 use Rattle.mdcc_link.specs.Link.{LinkCall}
 use Rattle.mdcc_log_file.specs.Area.{payloads}
 use Rattle.mdcc_def_messages.specs.Spelling.{encodings_of}
@@ -17,7 +18,6 @@ use Rattle.mdcc_def_messages.specs.declared.facts.Fact.{Fact}
 use Rattle.mdcc_def_rules.specs.Steps.{with_new}
 use Rattle.mdcc_def_server_runs.specs.Acts.{Act, appended_by, facts_appended}
 use Rattle.mdcc_def_server_runs.specs.Servers.{Log}
-use Rattle.mdcc_serve.specs.Serving.{IsServedLog}
 use Rattle.mdcc_theorem_node_steps.specs.NodeInvariant.{fact_payloads}
 use Rattle.mdcc_theorem_clusters.proofs.Discharged.{deployed-logged}
 use Rattle.mdcc_theorem_clusters.specs.Headline.{IsToldTruly}
@@ -27,10 +27,9 @@ use Rattle.mdcc_theorem_server_lives.proofs.Telling.{histories-told}
 use Rattle.mdcc_theorem_server_lives.specs.Histories
 use Rattle.mdcc_theorem_server_lives.specs.Histories.{IsHistory, MayEnd, Present, Underway, at_first, with_life}
 use Rattle.mdcc_theorem_server_lives.specs.Lives.{IsLifeOf, Life, onto}
-use Rattle.mdcc_theorem_cluster_nodes.proofs.Calls.{calls-are-lives}
+use Rattle.mdcc_theorem_cluster_nodes.proofs.Calls.{called-lives}
 use Rattle.mdcc_theorem_cluster_nodes.specs.Areas.{Areas}
-use Rattle.mdcc_theorem_cluster_nodes.specs.Calls.{Call}
-use Rattle.mdcc_theorem_cluster_nodes.specs.Clusters.{AreCalls, Cluster, ClusterHasHeadline, FrontsAreCalls, HasSince, HeadlineOfCalls, IsCalled, Lives, LivesFrom, Running, MayBeNext, MayCall, MayReturn, ClusterStep, after_run_act_at, after_acts_left, acts_left_of, after_cluster_step, after_cluster_steps, no_calls, with_now}
+use Rattle.mdcc_theorem_cluster_nodes.specs.Clusters.{AreCalls, Cluster, ClusterHasHeadline, FrontsAreCalls, HasSince, HeadlineOfCalls, IsCalled, KilledCallsAreLives, Lives, LivesFrom, Running, MayBeNext, MayCall, MayReturn, ClusterStep, after_run_act_at, after_acts_left, acts_left_of, after_cluster_step, after_cluster_steps, no_calls, with_now}
 
 -- ---- histories grow at their end
 
@@ -147,23 +146,14 @@ module _ {D L O : Type 0} (disk : D → ℕ → Disk) (may_leave : D → ℕ →
         one-more cluster (after_cluster_step cluster (ClusterStep.Calls a acts left)) g (Histories.Step.Begins life) (record { alone = ap here.now centre ∙ none.0; log = own ∙ ap here.log (sym centre); is = of })
         (subst (λ (z : ℕ). Follows (after_cluster_step cluster (ClusterStep.Calls a acts left)) (with_life here.done here z (Some one) life.log)) (sym centre) (record { done = g.follows.done; each = f.each }))
 
-    called-goes : cluster.now a ≡ None → IsCalled disk may_leave tears calls lost held config a (cluster.areas a) acts left → Goes (after_cluster_step cluster (ClusterStep.Calls a acts left))
-    called-goes alone c =
-        let has : IsServedLog disk config.cluster c.at.disks_before log_here = record {
-          told = c.told.first;
-          told_other = c.told.second;
-          has = ap (λ (bytes : List ℕ). payloads bytes (disk c.at.disks_before (a + 16)).bytes) c.first ∙ (ap (payloads (cluster.areas a).first) c.second ∙ (free alone).1);
-          allowed = logged g.steps g.history a;
-        } in
-        let call : Call disk may_leave tears calls lost held config = record { log = log_here; at = c.at; result = c.result; serves = c.serves log_here refl has } in
-        let lived = calls-are-lives disk may_leave tears calls lost held config call (c.granted log_here refl has) left.first left.second c.left_first c.left_second in
-        let l = lived.1 in
-        life-goes lived.0 l.centre l.log (l.acts ∙ sym (c.acts_are log_here refl has)) l.of l.kept (free alone)
-
     lives-goes : cluster.now a ≡ None → Lives config a (cluster.areas a) acts left → Goes (after_cluster_step cluster (ClusterStep.Calls a acts left))
     lives-goes alone k =
         let at = k log_here refl (free alone).1 (logged g.steps g.history a) in
         life-goes at.life (ap (λ (log : Log). log.centre) at.log_is) (ap (λ (log : Log). log.facts) at.log_is) at.acts_are at.is at.read (free alone)
+
+    called-goes : {D L O : Type 0} (disk : D → ℕ → Disk) (may_leave : D → ℕ → List ℕ → Type 0) (tears : ℕ → Type 0) (calls : L → Option (List LinkCall)) (lost : L → ℕ) (held : O → Option (List ℕ)) → cluster.now a ≡ None
+        → IsCalled disk may_leave tears calls lost held config a (cluster.areas a) acts left → Goes (after_cluster_step cluster (ClusterStep.Calls a acts left))
+    called-goes disk may_leave tears calls lost held alone c = lives-goes alone (called-lives disk may_leave tears calls lost held config a (cluster.areas a) acts left c)
 
     from-goes : cluster.now a ≡ None → LivesFrom config a (cluster.areas a) acts left → Goes (after_cluster_step cluster (ClusterStep.Calls a acts left))
     from-goes alone k =
@@ -176,10 +166,13 @@ module _ {D L O : Type 0} (disk : D → ℕ → Disk) (may_leave : D → ℕ →
     call-goes : MayCall disk may_leave tears calls lost held config cluster a acts left → Goes (after_cluster_step cluster (ClusterStep.Calls a acts left))
     call-goes m =
         elim m.called [
-          | inl c ↦ called-goes m.alone c
-          | inr lives ↦ elim lives [
-            | inl k ↦ lives-goes m.alone k
-            | inr k ↦ from-goes m.alone k
+          | inl c ↦ called-goes disk may_leave tears calls lost held m.alone c
+          | inr others ↦ elim others [
+            | inl c ↦ called-goes (disk_of_killed disk) (may_leave_of_killed may_leave) tears (calls_of_killed calls) (lost_of_killed lost) (held_of_killed held) m.alone c
+            | inr lives ↦ elim lives [
+              | inl k ↦ lives-goes m.alone k
+              | inr k ↦ from-goes m.alone k
+            ]
           ]
         ]
 
@@ -292,3 +285,8 @@ pub fronts-called : {D L O : Type 0} (disk : D → ℕ → Disk) (may_leave : D 
     → FrontsAreCalls disk may_leave tears calls lost held
 fronts-called disk may_leave tears calls lost held config cluster [] more h = tt
 fronts-called disk may_leave tears calls lost held config cluster (step ∷ first) more h = (h.0, fronts-called disk may_leave tears calls lost held config (after_cluster_step cluster step) first more h.1)
+
+pub killed-lives : {D L O : Type 0} (disk : D → ℕ → Disk) (may_leave : D → ℕ → List ℕ → Type 0) (tears : ℕ → Type 0) (calls : L → Option (List LinkCall)) (lost : L → ℕ) (held : O → Option (List ℕ))
+    → KilledCallsAreLives disk may_leave tears calls lost held
+killed-lives disk may_leave tears calls lost held config a found acts left killed =
+    called-lives (disk_of_killed disk) (may_leave_of_killed may_leave) tears (calls_of_killed calls) (lost_of_killed lost) (held_of_killed held) config a found acts left killed

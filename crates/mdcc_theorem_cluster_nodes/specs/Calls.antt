@@ -14,7 +14,7 @@ use Rattle.mdcc_def_server_runs.specs.Acts.{Act, but_answers}
 use Rattle.mdcc_def_server_runs.specs.Runs.{listed}
 use Rattle.mdcc_def_server_runs.specs.Servers.{Log}
 use Rattle.mdcc_def_server_runs.specs.Turns.{Given}
-use Rattle.mdcc_serve.specs.Serving.{IsDurable, Leaves, ServesOrBreaksOff}
+use Rattle.mdcc_serve.specs.Serving.{IsDurable, Leaves, ServesOrBreaksOff, WhileOpening}
 use Rattle.mdcc_serve.specs.declared.served.Served.{Served}
 use Rattle.mdcc_serve_site.specs.Causes.{IsSafeAt, in_flight}
 use Rattle.mdcc_serve_site.specs.declared.fault.ServeFault.{ServeFault}
@@ -75,10 +75,10 @@ module _ {D L O : Type 0} (disk : D → ℕ → Disk) (may_leave : D → ℕ →
 
   -- ---- what is taken for granted of it
 
-  -- where it ended before its end, its log was durable as it began, and if that was as the log was opened, no byte is torn to 1
+  -- where it ended as it opened its log, this was durable as it began, and at a boot no byte is torn to 1
   abbrev pub IsKeptBy : (config : Config) (log : Log) (at : Setting) (result : Result Served ServeFault) → Clause config log at result → Type 0
   IsKeptBy config log at (Ok served) s = ⊤
-  IsKeptBy config log at (Err fault) s = IsDurable disk may_leave at.disks_before log × IsSafeAt tears fault s.rest
+  IsKeptBy config log at (Err fault) s = WhileOpening s.stops (IsDurable disk may_leave at.disks_before log × IsSafeAt tears fault s.rest)
 
   -- where it came to its end, receives gave bytes: that there were serials enough its contract says
   abbrev pub Fits : (config : Config) (log : Log) (at : Setting) (result : Result Served ServeFault) → Clause config log at result → Type 0

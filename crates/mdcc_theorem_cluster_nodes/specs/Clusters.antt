@@ -5,6 +5,7 @@ use Rattle.mdcc_config.specs.IsConfig.{IsConfig}
 use Rattle.mdcc_config.specs.declared.config.Config.{Config}
 use Rattle.mdcc_disks.specs.Disks.{Disk}
 use Rattle.mdcc_command_endings.specs.Logs.{AreAreasTold}
+use Rattle.mdcc_killed.specs.Killed.{calls_of_killed, disk_of_killed, held_of_killed, lost_of_killed, may_leave_of_killed}
 use Rattle.mdcc_link.specs.Link.{LinkCall}
 use Rattle.mdcc_log_file.specs.Area.{payloads}
 use Rattle.mdcc_def_messages.specs.Spelling.{encodings_of}
@@ -81,7 +82,7 @@ abbrev pub acts_left_of : Option Running → Option (List Act)
 acts_left_of None = None
 acts_left_of (Some run) = Some run.left
 
--- ---- a process that was killed, or served others too
+-- ---- a process as a life
 
 -- Over this log a process did the first acts of a life of its centre, and the areas have the log that this life left: what was appended, or that and the
 -- append that was under way.
@@ -92,8 +93,8 @@ pub record LivesOver (config : Config) (log : Log) (acts : List Act) (left : Are
   pub acts_are : life.acts ≡ acts
   pub read : payloads left.first left.second ≡ Ok (encodings_of life.kept)
 
--- So it is over the log that it found, where that has facts that its centre may have added. Of a process that was killed in a call of `serve_node` this
--- is what a clause on any moment inside the call would say: the contract has none yet, so it is a premise.
+-- So it is over the log that it found, where that has facts that its centre may have added: so it is of each call of `serve_node`, also of one that is
+-- killed.
 abbrev pub Lives : Config → ℕ → Areas → List Act → Areas → Type 0
 Lives config a found acts left =
     (log : Log) → log.centre ≡ a → payloads found.first found.second ≡ Ok (encodings_of log.facts) → AreLogged config.cluster log.facts → LivesOver config log acts left
@@ -143,10 +144,23 @@ module _ {D L O : Type 0} (disk : D → ℕ → Disk) (may_leave : D → ℕ →
     pub left_first : may_leave at.disks_after a left.first
     pub left_second : may_leave at.disks_after (a + 16) left.second
 
-  -- One process of a centre is on at a time, and finds what the one before left: a call that returns, or one that was killed or served others too.
+module _ {D L O : Type 0} (disk : D → ℕ → Disk) (may_leave : D → ℕ → List ℕ → Type 0) (tears : ℕ → Type 0) (calls : L → Option (List LinkCall)) (lost : L → ℕ) (held : O → Option (List ℕ)) where
+  -- The same of a process that is killed in such a call: so many calls of its disks, its link and its output are made, and none that would come later.
+  -- As the call sees it, each of those fails, so that it ends; the areas are what they were at the kill, or what a crash leaves of that. Its last acts
+  -- may be sends that were not made: of these nobody can say that they were not lost on the way.
+  abbrev pub IsKilled : Config → ℕ → Areas → List Act → Areas → Type 0
+  IsKilled config a found acts left =
+      IsCalled (disk_of_killed disk) (may_leave_of_killed may_leave) tears (calls_of_killed calls) (lost_of_killed lost) (held_of_killed held) config a found acts left
+
+  -- So it did the first acts of a life, of which its areas have the log: with the append that was under way, or without it.
+  abbrev pub KilledCallsAreLives : Type 0
+  KilledCallsAreLives = (config : Config) (a : ℕ) (found : Areas) (acts : List Act) (left : Areas) → IsKilled config a found acts left → Lives config a found acts left
+
+  -- One process of a centre is on at a time, and finds what the one before left: a call that returns or is killed, or one that served others too.
   pub record MayCall (config : Config) (cluster : Cluster) (a : ℕ) (acts : List Act) (left : Areas) : Type 0 where
     pub alone : cluster.now a ≡ None
-    pub called : IsCalled config a (cluster.areas a) acts left ⊎ (Lives config a (cluster.areas a) acts left ⊎ LivesFrom config a (cluster.areas a) acts left)
+    pub called : IsCalled disk may_leave tears calls lost held config a (cluster.areas a) acts left
+        ⊎ (IsKilled config a (cluster.areas a) acts left ⊎ (Lives config a (cluster.areas a) acts left ⊎ LivesFrom config a (cluster.areas a) acts left))
 
   -- what a receive at a centre's own endpoint gives was sent before by a centre of the cluster
   abbrev pub MayBeNext : Config → Cluster → ClusterStep → Type 0

@@ -2,13 +2,13 @@
 #![tactic(auto)]
 
 ghost use Rattle.mdcc_theorem_cluster_nodes.specs.Calls.{CallsAreLives};
-ghost use Rattle.mdcc_theorem_cluster_nodes.specs.Clusters.{FrontsAreCalls, HeadlineOfCalls};
+ghost use Rattle.mdcc_theorem_cluster_nodes.specs.Clusters.{FrontsAreCalls, HeadlineOfCalls, KilledCallsAreLives};
 ghost use Rattle.mdcc_theorem_cluster_nodes.specs.Refused.{RefusedCallsDoNothing};
 ghost use Rattle.mdcc_theorem_cluster_nodes.specs.Several.{AllCentresLive};
 
 mod called;
 
-pub use called::{call_cluster, call_node};
+pub use called::{call_cluster, call_killed_node, call_node};
 use mdcc_base::Sink;
 use mdcc_disks::Disks;
 use mdcc_link::Link;
@@ -17,6 +17,12 @@ use mdcc_link::Link;
 /// act with the last group in the log whole or not at all; and what is read of its areas later is the log that this life left.
 pub fn calls_are_lives<D: Disks, L: Link, O: Sink>()
     ensures { CallsAreLives D.disk D.may_leave D.tears L.calls L.lost O.held }
+{}
+
+/// So it is of a call that is killed, and then whatever a crash leaves: it did the first acts of a life, and its areas have the log of that life,
+/// with the group that was being appended or without it.
+pub fn killed_calls_are_lives<D: Disks, L: Link, O: Sink>()
+    ensures { KilledCallsAreLives D.disk D.may_leave D.tears L.calls L.lost O.held }
 {}
 
 /// A call that refuses its log, since no node boots from it, is a life without an act, whatever a crash leaves of the log then.
@@ -30,8 +36,8 @@ pub fn all_centres_live<D: Disks, L: Link, O: Sink>()
     ensures { AllCentresLive D.disk D.may_leave D.tears L.calls L.lost O.held }
 {}
 
-/// The headline for programs: of all that calls of `serve_node` did, one at a time for each centre, each over the areas that the one
-/// before left, in whatever order their acts came, where a centre's own endpoint got only what a centre of the cluster had sent.
+/// The headline for programs: of all that calls of `serve_node` did, one at a time for each centre, whole or killed, each over the areas that
+/// the one before left, in whatever order their acts came, where a centre's own endpoint got only what a centre of the cluster had sent.
 pub fn headline_of_calls<D: Disks, L: Link, O: Sink>()
     ensures { HeadlineOfCalls D.disk D.may_leave D.tears L.calls L.lost O.held }
 {}
