@@ -47,11 +47,11 @@ onto-last : (start : List Fact) (all : List (Option Fact)) (fact : Fact) → fol
 onto-last start [] fact = refl
 onto-last start (one ∷ all) fact = onto-last (with_new start one) all fact
 
-facts-back : (facts : List Fact) → fold (λ before one. with_new before one) [] (fact_payloads facts) ≡ facts
+pub facts-back : (facts : List Fact) → fold (λ before one. with_new before one) [] (fact_payloads facts) ≡ facts
 facts-back [] = refl
 facts-back (fact ∷ facts) = onto-last [] (fact_payloads facts) fact ∙ ap (λ (xs : List Fact). fact ∷ xs) (facts-back facts)
 
-ok-same : (r : Result (List (List ℕ)) ℕ) (xs ys : List (List ℕ)) → r ≡ Ok xs → r ≡ Ok ys → xs ≡ ys
+pub ok-same : (r : Result (List (List ℕ)) ℕ) (xs ys : List (List ℕ)) → r ≡ Ok xs → r ≡ Ok ys → xs ≡ ys
 ok-same (Err offset) xs ys e f = absurd (cc)
 ok-same (Ok zs) xs ys e f = let one : zs ≡ xs = cc in let two : zs ≡ ys = cc in sym one ∙ two
 

@@ -1,8 +1,13 @@
 //! Calls of `serve_node` as lives of centres: what a cluster of them makes durable, sends and prints.
 #![tactic(auto)]
 
+ghost use Rattle.std.specs.Prelude.{◌≡◌, ◌∷◌, [], true, ⊤};
+ghost use Rattle.mdcc_def_server_runs.specs.declared.lines.ServerLine.{ServerLine};
+ghost use Rattle.mdcc_theorem_clusters.specs.Crash.{three_centres};
+ghost use Rattle.mdcc_theorem_clusters.specs.Example.{asked_tx};
 ghost use Rattle.mdcc_theorem_cluster_nodes.specs.Calls.{CallsAreLives};
-ghost use Rattle.mdcc_theorem_cluster_nodes.specs.Clusters.{FrontsAreCalls, HeadlineOfCalls, KilledCallsAreLives};
+ghost use Rattle.mdcc_theorem_cluster_nodes.specs.Clusters.{AreCalls, FrontsAreCalls, HeadlineOfCalls, KilledCallsAreLives, after_cluster_steps};
+ghost use Rattle.mdcc_theorem_cluster_nodes.specs.Example.{at_first_empty, disk_of_areas, just_these, kill_steps, lines_printed_in, no_byte, none_lost, none_recorded_of};
 ghost use Rattle.mdcc_theorem_cluster_nodes.specs.Refused.{RefusedCallsDoNothing};
 ghost use Rattle.mdcc_theorem_cluster_nodes.specs.Several.{AllCentresLive};
 
@@ -46,4 +51,12 @@ pub fn headline_of_calls<D: Disks, L: Link, O: Sink>()
 /// then: nothing is sent or printed that follows from facts which become durable only later.
 pub fn fronts_are_calls<D: Disks, L: Link, O: Sink>()
     ensures { FrontsAreCalls D.disk D.may_leave D.tears L.calls L.lost O.held }
+{}
+
+/// There are such calls, so that the headline does not speak of nothing: three nodes commit what a client began, though one of them is
+/// killed while its vote is on the way to its log, and started again over what it left. Before, the client sent what is no message.
+pub fn three_nodes_commit_over_a_kill()
+    ensures calls { AreCalls {L = ⊤} {O = ⊤} disk_of_areas just_these no_byte none_recorded_of none_lost none_recorded_of three_centres at_first_empty kill_steps }
+    ensures lines { lines_printed_in (after_cluster_steps at_first_empty kill_steps)
+        ≡ ServerLine.Heard 1 asked_tx true ∷ ServerLine.Booted 3 1 ∷ ServerLine.Booted 2 2 ∷ ServerLine.Booted 2 1 ∷ ServerLine.Booted 1 1 ∷ [] }
 {}
