@@ -1,5 +1,5 @@
 -- A call over areas of which the log is known.
-use Rattle.std.proofs.Common.{List, Ok, Option, Result, [], ap, refl, subst, sym, ℕ, ◌+◌, ◌∙◌, ◌∷◌, ◌≡◌}
+use Rattle.std.proofs.Common.{List, Ok, Option, Result, [], ap, subst, sym, ℕ, ◌+◌, ◌∙◌, ◌≡◌}
 use Rattle.std.specs.Prelude.{fold, map}
 use Rattle.mdcc_node_boot.specs.Loading.{fact_read}
 use Rattle.mdcc_node_log.proofs.Logged.{payloads-read}

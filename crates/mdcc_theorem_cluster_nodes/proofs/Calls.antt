@@ -162,6 +162,12 @@ module _ {D L O : Type 0} (disk : D → ℕ → Disk) (may_leave : D → ℕ →
 
   -- ---- over the areas that it finds
 
+  abbrev log-of : ℕ → List Fact → Log
+  log-of a facts = record { centre = a; facts = facts }
+
+  same-log : (a b : ℕ) (one other : List Fact) → a ≡ b → one ≡ other → log-of a one ≡ log-of b other
+  same-log a b one other e f = cc
+
   called-at : (config : Config) (a : ℕ) (found : Areas) (acts : List Act) (left : Areas) → IsCalled disk may_leave tears calls lost held config a found acts left → (facts : List Fact)
       → payloads found.first found.second ≡ Ok (encodings_of facts) → AreLogged config.cluster facts → LivesOver config (record { centre = a; facts = facts }) acts left
   called-at config a found acts left c facts read allowed =
@@ -179,7 +185,7 @@ module _ {D L O : Type 0} (disk : D → ℕ → Disk) (may_leave : D → ℕ →
       record {
         life = life;
         is = l.of;
-        log_is = ap (λ (n : ℕ). record { centre = n; facts = life.log }) l.centre ∙ ap (λ (all : List Fact). record { centre = a; facts = all }) l.log;
+        log_is = same-log life.centre a life.log facts l.centre l.log;
         acts_are = l.acts ∙ sym (c.acts_are log refl has);
         read = l.kept;
       }

@@ -1,5 +1,5 @@
 -- A cluster of calls is a history of lives.
-use Rattle.std.proofs.Common.{Result, List, None, Ok, Option, Some, [], ap, cond, false, inl, inr, refl, subst, sym, ℕ, ◌+◌, ◌++◌, ◌==◌, ◌∙◌, ◌∷◌, ◌≡◌, Err, fold, map, append-nil}
+use Rattle.std.proofs.Common.{Result, List, None, Ok, Option, Some, [], ap, cond, false, inl, inr, refl, subst, sym, ℕ, ◌++◌, ◌==◌, ◌∙◌, ◌∷◌, ◌≡◌, Err, fold, map, append-nil}
 use Rattle.std.proofs.lemmas.List.Concat.{flat_map-append}
 use Rattle.std.proofs.lemmas.Bool.{cases_Bool, eq-eqb, eqb-true}
 use Rattle.std.specs.List.{AllByRecursion}

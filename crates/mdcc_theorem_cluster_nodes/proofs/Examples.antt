@@ -1,5 +1,5 @@
 -- The example is of calls.
-use Rattle.std.proofs.Common.{Bool, Err, List, None, Ok, Option, Result, Some, [], ap, arith, false, inl, inr, map, refl, suc, sym, true, zero, ℕ, ◌+◌, ◌++◌, ◌<◌, ◌==◌, ◌^◌, ◌∙◌, ◌∷◌, ◌≡◌, ◌≤◌}
+use Rattle.std.proofs.Common.{Bool, Err, List, None, Ok, Option, Some, [], ap, arith, false, inl, inr, map, refl, suc, true, zero, ℕ, ◌+◌, ◌++◌, ◌<◌, ◌==◌, ◌^◌, ◌∙◌, ◌∷◌, ◌≡◌, ◌≤◌}
 use Rattle.std.specs.List.{AllByRecursion}
 use Rattle.std.specs.Prelude.{drop, length, nat_lt, not, take, ⊤, ◌&&◌, ◌||◌}
 use Rattle.std.proofs.lemmas.Bool.{and_parts, eq-eqb, ltb-true}
@@ -14,7 +14,6 @@ use Rattle.mdcc_killed.specs.Killed.{calls_of_killed, disk_of_killed, held_of_ki
 use Rattle.mdcc_killed.specs.declared.disks.KilledDisks.{KilledDisks}
 use Rattle.mdcc_killed.specs.declared.link.KilledLink.{KilledLink}
 use Rattle.mdcc_killed.specs.declared.output.KilledOutput.{KilledOutput}
-use Rattle.mdcc_link.specs.Link.{LinkCall}
 use Rattle.mdcc_log_file.specs.Area.{payloads}
 use Rattle.mdcc_log_file.specs.Area.Head.{Version1}
 use Rattle.mdcc_serve.specs.Stages.{done_line}
@@ -24,14 +23,13 @@ use Rattle.mdcc_serve_site.specs.declared.fault.ServeFault.{ServeFault}
 use Rattle.mdcc_theorem_clusters.proofs.Executed.{asked-bytes, was-sent}
 use Rattle.mdcc_theorem_clusters.specs.Crash.{proposal_to, three_centres}
 use Rattle.mdcc_theorem_clusters.specs.ExecutionTest.{may_receive_asked, was_sent}
-use Rattle.mdcc_theorem_clusters.specs.Traces.{Ending, GivesBytes, MayDoNext, MayReceive}
+use Rattle.mdcc_theorem_clusters.specs.Traces.{GivesBytes, MayDoNext, MayReceive}
 use Rattle.mdcc_theorem_node_steps.specs.NodeInvariant.{fact_payloads}
-use Rattle.mdcc_theorem_server_lives.specs.Lives.{messages_sent_by}
 use Rattle.mdcc_theorem_cluster_nodes.proofs.Called.{DidOver, called-by}
 use Rattle.mdcc_theorem_cluster_nodes.specs.Areas.{Areas}
 use Rattle.mdcc_theorem_cluster_nodes.specs.Calls.{Setting}
 use Rattle.mdcc_theorem_cluster_nodes.specs.Clusters.{AreCalls, Cluster, ClusterStep, IsCalled, IsKilled, acts_left_of, after_cluster_step, after_cluster_steps}
-use Rattle.mdcc_theorem_cluster_nodes.specs.Example.{acts_done_by, acts_until_killed, areas_with, asked_first, at_first_empty, disk_of_areas, gave_own, given_first, given_proposal, heard_and_voted, just_these, kill_steps, log_with, no_byte, none_lost, none_recorded_of, voted_once, voted_twice, whole_acts}
+use Rattle.mdcc_theorem_cluster_nodes.specs.Example.{acts_done_by, acts_until_killed, again_steps, areas_with, asked_first, at_first_empty, begins_whole, disk_of_areas, gave_own, given_first, given_proposal, heard_and_voted, just_these, kill_steps, killed_steps, last_steps, log_with, no_byte, none_lost, none_recorded_of, third_steps, voted_once, voted_twice, whole_acts}
 
 -- ---- acts
 
@@ -78,6 +76,32 @@ calls-do cluster a (suc n) more h k =
 
 -- ---- calls
 
+-- the link answered well to each send
+abbrev is_plain : Act → Bool
+is_plain (Act.Send from to bytes (Err failed)) = false
+is_plain act = true
+
+abbrev are_plain : List Act → Bool
+are_plain [] = true
+are_plain (act ∷ acts) = is_plain act && are_plain acts
+
+plain-same : (act : Act) → is_plain act ≡ true → but_answer act ≡ act
+plain-same (Act.Send from to bytes (Ok done)) h = refl
+plain-same (Act.Send from to bytes (Err failed)) h = absurd (cc)
+plain-same (Act.Bind at address) h = refl
+plain-same (Act.Receive at gave) h = refl
+plain-same (Act.Append centre facts) h = refl
+plain-same (Act.Print line) h = refl
+plain-same Act.Stepped h = refl
+plain-same Act.Dropped h = refl
+plain-same Act.Unsent h = refl
+
+all-plain : (acts : List Act) → are_plain acts ≡ true → but_answers acts ≡ acts
+all-plain [] h = refl
+all-plain (act ∷ acts) h =
+    let both = and_parts (is_plain act) (are_plain acts) h in
+    ap (λ (z : Act). z ∷ but_answers acts) (plain-same act both.0) ∙ ap (λ (xs : List Act). act ∷ xs) (all-plain acts both.1)
+
 few : (n most : ℕ) → nat_lt n most ≡ true → n < most
 few n most h = ltb-true n most h
 
@@ -121,7 +145,7 @@ first-whole : Whole 1 [] given_first no_areas heard_and_voted
 first-whole = record {
   serves = record {
     acts = whole_acts 1 [] given_first ++ told_line given_first (whole_acts 1 [] given_first);
-    run = record { given = alone given_first; turns_made = refl; each = (refl, (refl, (refl, (refl, (refl, (refl, tt)))))); ran = whole_acts 1 [] given_first; runs = refl; whole = refl };
+    run = record { given = alone given_first; turns_made = refl; each = (refl, (refl, (refl, (refl, (refl, (refl, tt)))))); ran = whole_acts 1 [] given_first; runs = all-plain (whole_acts 1 [] given_first) refl; whole = refl };
     left = record { link = inl refl; output = tt; failed_sends = none-failed (whole_acts 1 [] given_first ++ told_line given_first (whole_acts 1 [] given_first)) refl };
     kept = (record { log = record { head = Version1; tail = encodings_of heard_and_voted }; read = refl; facts_themselves = refl; short = few 3 1024 refl; durable = λ c e. e; durable_other = λ c e. e }, tt);
     serials = (few _ (2 ^ 32) refl, tt);
@@ -138,7 +162,7 @@ second-whole : Whole 2 voted_once (given_proposal 2) (areas_with voted_once) vot
 second-whole = record {
   serves = record {
     acts = whole_acts 2 voted_once (given_proposal 2) ++ told_line (given_proposal 2) (whole_acts 2 voted_once (given_proposal 2));
-    run = record { given = alone (given_proposal 2); turns_made = refl; each = (refl, tt); ran = whole_acts 2 voted_once (given_proposal 2); runs = refl; whole = refl };
+    run = record { given = alone (given_proposal 2); turns_made = refl; each = (refl, tt); ran = whole_acts 2 voted_once (given_proposal 2); runs = all-plain (whole_acts 2 voted_once (given_proposal 2)) refl; whole = refl };
     left = record { link = inl refl; output = tt; failed_sends = none-failed (whole_acts 2 voted_once (given_proposal 2) ++ told_line (given_proposal 2) (whole_acts 2 voted_once (given_proposal 2))) refl };
     kept = (record { log = record { head = Version1; tail = encodings_of voted_twice }; read = refl; facts_themselves = refl; short = few 3 1024 refl; durable = λ c e. e; durable_other = λ c e. e }, tt);
     serials = (few _ (2 ^ 32) refl, tt);
@@ -155,7 +179,7 @@ third-whole : Whole 3 [] (given_proposal 3) no_areas voted_once
 third-whole = record {
   serves = record {
     acts = whole_acts 3 [] (given_proposal 3) ++ told_line (given_proposal 3) (whole_acts 3 [] (given_proposal 3));
-    run = record { given = alone (given_proposal 3); turns_made = refl; each = (refl, tt); ran = whole_acts 3 [] (given_proposal 3); runs = refl; whole = refl };
+    run = record { given = alone (given_proposal 3); turns_made = refl; each = (refl, tt); ran = whole_acts 3 [] (given_proposal 3); runs = all-plain (whole_acts 3 [] (given_proposal 3)) refl; whole = refl };
     left = record { link = inl refl; output = tt; failed_sends = none-failed (whole_acts 3 [] (given_proposal 3) ++ told_line (given_proposal 3) (whole_acts 3 [] (given_proposal 3))) refl };
     kept = (record { log = record { head = Version1; tail = encodings_of voted_once }; read = refl; facts_themselves = refl; short = few 2 1024 refl; durable = λ c e. e; durable_other = λ c e. e }, tt);
     serials = (few _ (2 ^ 32) refl, tt);
@@ -233,23 +257,49 @@ killed =
 
 -- ---- all of them
 
-pub example-calls : Are at_first_empty kill_steps
-example-calls = (
-  record { alone = refl; called = inl (whole-called 1 [] given_first no_areas heard_and_voted refl refl refl refl refl refl first-whole) },
-  calls-do _ 1 (length (whole_acts 1 [] asked_first)) _ refl (
-    record { alone = refl; called = inr (inl killed) },
-    calls-do _ 2 7 _ refl (
+abbrev asked_now : Cluster
+asked_now = after_cluster_step at_first_empty (begins_whole 1 [] given_first heard_and_voted)
+
+abbrev killed_now : Cluster
+killed_now = after_cluster_step (after_cluster_steps asked_now (acts_done_by 1 (length (whole_acts 1 [] asked_first)))) (ClusterStep.Calls 2 acts_until_killed (areas_with voted_once))
+
+abbrev again_now : Cluster
+again_now = after_cluster_step (after_cluster_step (after_cluster_steps killed_now (acts_done_by 2 7)) (ClusterStep.Returns 2)) (begins_whole 2 voted_once (given_proposal 2) voted_twice)
+
+abbrev third_now : Cluster
+third_now =
+    after_cluster_step (after_cluster_step (after_cluster_steps again_now (acts_done_by 2 (length (whole_acts 2 voted_once (given_proposal 2))))) (ClusterStep.Returns 2))
+    (begins_whole 3 [] (given_proposal 3) voted_once)
+
+abbrev last_now : Cluster
+last_now = after_cluster_step (after_cluster_steps third_now (acts_done_by 3 (length (whole_acts 3 [] (given_proposal 3))))) (ClusterStep.Returns 3)
+
+last-calls : Are last_now (acts_done_by 1 (length (whole_acts 1 [] given_first)) ++ ClusterStep.Returns 1 ∷ [])
+last-calls = calls-do last_now 1 (length (whole_acts 1 [] given_first)) (ClusterStep.Returns 1 ∷ []) refl (refl, tt)
+
+third-calls : Are third_now (acts_done_by 3 (length (whole_acts 3 [] (given_proposal 3))) ++ last_steps)
+third-calls = calls-do third_now 3 (length (whole_acts 3 [] (given_proposal 3))) last_steps refl (refl, last-calls)
+
+again-calls : Are again_now (acts_done_by 2 (length (whole_acts 2 voted_once (given_proposal 2))) ++ third_steps)
+again-calls =
+    calls-do again_now 2 (length (whole_acts 2 voted_once (given_proposal 2))) third_steps refl (
+      refl,
+      (record { alone = refl; called = inl (whole-called 3 [] (given_proposal 3) no_areas voted_once refl refl refl refl refl refl third-whole) }, third-calls),
+    )
+
+killed-calls : Are killed_now (acts_done_by 2 7 ++ again_steps)
+killed-calls =
+    calls-do killed_now 2 7 again_steps refl (
       refl,
       (
         record { alone = refl; called = inl (whole-called 2 voted_once (given_proposal 2) (areas_with voted_once) voted_twice refl refl refl refl refl refl second-whole) },
-        calls-do _ 2 (length (whole_acts 2 voted_once (given_proposal 2))) _ refl (
-          refl,
-          (
-            record { alone = refl; called = inl (whole-called 3 [] (given_proposal 3) no_areas voted_once refl refl refl refl refl refl third-whole) },
-            calls-do _ 3 (length (whole_acts 3 [] (given_proposal 3))) _ refl (refl, calls-do _ 1 (length (whole_acts 1 [] given_first)) _ refl (refl, tt)),
-          ),
-        ),
+        again-calls,
       ),
-    ),
-  ),
-)
+    )
+
+asked-calls : Are asked_now (acts_done_by 1 (length (whole_acts 1 [] asked_first)) ++ killed_steps)
+asked-calls = calls-do asked_now 1 (length (whole_acts 1 [] asked_first)) killed_steps refl (record { alone = refl; called = inr (inl killed) }, killed-calls)
+
+pub example-calls : Are at_first_empty kill_steps
+example-calls =
+    (record { alone = refl; called = inl (whole-called 1 [] given_first no_areas heard_and_voted refl refl refl refl refl refl first-whole) }, asked-calls)

@@ -1,6 +1,6 @@
 -- Processes of a cluster of three centres that commit what a client began: centre 2 is killed while its vote is on the way to its log, is started again
 -- over what it left, and the proposal comes to it once more; before, the client sent what is no message.
-use Rattle.std.specs.Prelude.{List, None, Option, Some, [], false, if◌then◌else◌, length, map, nat_le, suc, take, true, zero, ⊤, ℕ, ◌++◌, ◌∷◌, ◌≡◌}
+use Rattle.std.specs.Prelude.{List, None, Option, Some, [], false, if◌then◌else◌, length, map, nat_le, suc, take, true, zero, ℕ, ◌++◌, ◌∷◌, ◌≡◌}
 use Rattle.mdcc_def_messages.specs.Spelling.{encodings_of}
 use Rattle.mdcc_def_messages.specs.declared.facts.Fact.{Fact}
 use Rattle.mdcc_def_server_runs.specs.Acts.{Act}
@@ -8,7 +8,6 @@ use Rattle.mdcc_def_server_runs.specs.Servers.{Log}
 use Rattle.mdcc_def_server_runs.specs.Turns.{Given}
 use Rattle.mdcc_def_server_runs.specs.declared.lines.ServerLine.{ServerLine}
 use Rattle.mdcc_disks.specs.Disks.{Disk}
-use Rattle.mdcc_link.specs.Link.{LinkCall}
 use Rattle.mdcc_log_file.specs.Area.{area_bytes}
 use Rattle.mdcc_log_file.specs.Area.Head.{Version1}
 use Rattle.mdcc_option.specs.declared.choices.Outcome.{Outcome}
@@ -17,7 +16,7 @@ use Rattle.mdcc_theorem_clusters.specs.Example.{asked_tx, inserting_choice}
 use Rattle.mdcc_theorem_clusters.specs.Traces.{acts_of}
 use Rattle.mdcc_theorem_server_runs.specs.Told.{server_lines_in}
 use Rattle.mdcc_theorem_cluster_nodes.specs.Areas.{Areas}
-use Rattle.mdcc_theorem_cluster_nodes.specs.Clusters.{Cluster, ClusterStep, after_cluster_steps, no_calls}
+use Rattle.mdcc_theorem_cluster_nodes.specs.Clusters.{Cluster, ClusterStep, no_calls}
 
 -- ---- disks, links and outputs
 
@@ -95,14 +94,25 @@ acts_done_by a (suc n) = ClusterStep.Acts a ∷ acts_done_by a n
 abbrev pub begins_whole : ℕ → List Fact → List Given → List Fact → ClusterStep
 begins_whole a facts given kept = ClusterStep.Calls a (whole_acts a facts given) (areas_with kept)
 
--- Centre 1 does its first turns; centre 2 is killed with its vote in its log, and does a life more; then centre 3 votes, and centre 1 counts the votes.
+-- centre 1 counts the votes
+abbrev pub last_steps : List ClusterStep
+last_steps = ClusterStep.Returns 3 ∷ (acts_done_by 1 (length (whole_acts 1 [] given_first)) ++ ClusterStep.Returns 1 ∷ [])
+
+-- centre 3 votes
+abbrev pub third_steps : List ClusterStep
+third_steps = ClusterStep.Returns 2 ∷ begins_whole 3 [] (given_proposal 3) voted_once ∷ (acts_done_by 3 (length (whole_acts 3 [] (given_proposal 3))) ++ last_steps)
+
+-- centre 2 lives once more
+abbrev pub again_steps : List ClusterStep
+again_steps = ClusterStep.Returns 2 ∷ begins_whole 2 voted_once (given_proposal 2) voted_twice ∷ (acts_done_by 2 (length (whole_acts 2 voted_once (given_proposal 2))) ++ third_steps)
+
+-- it is killed with its vote in its log
+abbrev pub killed_steps : List ClusterStep
+killed_steps = ClusterStep.Calls 2 acts_until_killed (areas_with voted_once) ∷ (acts_done_by 2 7 ++ again_steps)
+
+-- centre 1 does its first turns
 abbrev pub kill_steps : List ClusterStep
-kill_steps =
-    begins_whole 1 [] given_first heard_and_voted ∷ (acts_done_by 1 (length (whole_acts 1 [] asked_first))
-    ++ (ClusterStep.Calls 2 acts_until_killed (areas_with voted_once) ∷ (acts_done_by 2 7
-    ++ (ClusterStep.Returns 2 ∷ begins_whole 2 voted_once (given_proposal 2) voted_twice ∷ (acts_done_by 2 (length (whole_acts 2 voted_once (given_proposal 2)))
-    ++ (ClusterStep.Returns 2 ∷ begins_whole 3 [] (given_proposal 3) voted_once ∷ (acts_done_by 3 (length (whole_acts 3 [] (given_proposal 3)))
-    ++ (ClusterStep.Returns 3 ∷ (acts_done_by 1 (length (whole_acts 1 [] given_first)) ++ ClusterStep.Returns 1 ∷ [])))))))))
+kill_steps = begins_whole 1 [] given_first heard_and_voted ∷ (acts_done_by 1 (length (whole_acts 1 [] asked_first)) ++ killed_steps)
 
 abbrev pub at_first_empty : Cluster
 at_first_empty = no_calls (λ a. record { first = []; second = [] })
