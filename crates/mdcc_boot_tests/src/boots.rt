@@ -5,8 +5,7 @@ use crate::setup::{BOOTED, FLOOR, HEARD, PROMISED, five_centres};
 use mdcc_base::{Centre, HeapList};
 use mdcc_def_messages::Fact;
 use mdcc_facts::FactStore;
-use mdcc_facts_counted::CountedFacts;
-use mdcc_facts_listed::ListFacts;
+use mdcc_index::PoolFacts;
 use mdcc_node::{BootFault, Node};
 use mdcc_node_boot::loading::are_short;
 use mdcc_node_boot::parts_belong::is_centre;
@@ -69,8 +68,7 @@ fn booted(
     alloc: Global,
     payloads: &[&[u8]],
 ) -> Result<Result<u32, BootFault>, Fail> {
-    let store = ListFacts::new(alloc).ok().ok_or("a store")?;
-    booted_over(rt, alloc, store, payloads)
+    booted_within(rt, alloc, 1024, payloads)
 }
 
 // Over a store of so many cells.
@@ -80,7 +78,7 @@ fn booted_within(
     cells: u32,
     payloads: &[&[u8]],
 ) -> Result<Result<u32, BootFault>, Fail> {
-    let store = CountedFacts::new(alloc, cells).ok().ok_or("a store")?;
+    let store = PoolFacts::new(alloc, cells).ok().ok_or("a store")?;
     booted_over(rt, alloc, store, payloads)
 }
 

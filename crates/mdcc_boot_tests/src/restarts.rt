@@ -5,8 +5,7 @@ use crate::setup::{BOOTED, HEARD, PROMISED, five_centres};
 use mdcc_base::{Centre, Image};
 use mdcc_disks::MemoryDisks;
 use mdcc_facts::FactStore;
-use mdcc_facts_counted::CountedFacts;
-use mdcc_facts_listed::ListFacts;
+use mdcc_index::PoolFacts;
 use mdcc_log::{Frames, LogFault};
 use mdcc_node_boot::parts_belong::is_centre;
 use mdcc_node_log::{BootFault, StartFault, start};
@@ -89,7 +88,7 @@ fn restarted_every(
 ) -> Result<Result<u32, StartFault>, Fail>
     requires { 1 ≤ every }
 {
-    let store = ListFacts::new(alloc).ok().ok_or("a store")?;
+    let store = PoolFacts::new(alloc, 1024).ok().ok_or("a store")?;
     restarted_over(rt, alloc, store, disks, every)
 }
 
@@ -100,7 +99,7 @@ fn restarted_within(
     cells: u32,
     disks: &mut MemoryDisks,
 ) -> Result<Result<u32, StartFault>, Fail> {
-    let store = CountedFacts::new(alloc, cells).ok().ok_or("a store")?;
+    let store = PoolFacts::new(alloc, cells).ok().ok_or("a store")?;
     restarted_over(rt, alloc, store, disks, 1024)
 }
 

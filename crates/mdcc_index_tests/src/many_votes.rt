@@ -100,7 +100,7 @@ fn is_full<S: FactStore>(alloc: Global, store: &mut S, next: u32) -> Result<bool
         needed: 2,
         spare: 0,
     };
-    Ok(store.spare() == 0 && add_vote(alloc, store, next)? == Some(Err(full)))
+    Ok(add_vote(alloc, store, next)? == Some(Err(full)))
 }
 
 #[test]

@@ -56,7 +56,7 @@ fn facts_fill_the_cells(rt: HostRuntime) -> Result<(), Fail> {
         spare: 0,
     };
     assert!(rt; add_read(alloc, &mut store, &aborted(7)) == Some(Err(full)));
-    assert!(rt; store.epoch() == 8 && store.spare() == 0);
+    assert!(rt; store.epoch() == 8 && store.cells() == 4);
     assert!(rt; is_aborted(&store, 5) && is_aborted(&store, 6) && is_unheard(&store, 7));
     Ok(())
 }

@@ -2,7 +2,7 @@
 use crate::values::{choice, cluster, key, tx, vote, voted};
 use mdcc_base::{Key, TxId};
 use mdcc_def_protocol::{RecoverAct, Vote};
-use mdcc_facts_listed::ListFacts;
+use mdcc_index::PoolFacts;
 use mdcc_option::{Claim, Mark, Outcome};
 use mdcc_recover::Recover;
 use std::process::Abort;
@@ -28,7 +28,7 @@ fn led(acts: &[RecoverAct], place: usize) -> Option<&Claim> {
 fn wait(
     rt: &impl Abort,
     recover: &mut Recover,
-    store: &ListFacts,
+    store: &PoolFacts,
     opened: &[TxId],
 ) -> Result<(), Fail> {
     assert!(rt; recover.tick(store, opened)?.is_empty());
@@ -36,7 +36,7 @@ fn wait(
 }
 
 // The tick at which all centres are asked on both keys.
-fn ask(rt: &impl Abort, recover: &mut Recover, store: &ListFacts) -> Result<(), Fail> {
+fn ask(rt: &impl Abort, recover: &mut Recover, store: &PoolFacts) -> Result<(), Fail> {
     let acts = recover.tick(store, &[])?;
     assert_eq!(rt; acts.len(), 2);
     assert_eq!(rt; asked(&acts, 0), Some((tx(), key(b'a'), 0)));
@@ -48,7 +48,7 @@ fn ask(rt: &impl Abort, recover: &mut Recover, store: &ListFacts) -> Result<(), 
 fn take(
     rt: &impl Abort,
     recover: &mut Recover,
-    store: &ListFacts,
+    store: &PoolFacts,
     letter: u8,
     centres: &[u8],
 ) -> Result<(), Fail> {

@@ -1,4 +1,4 @@
-//! Tests of the recovery over the list store.
+//! Tests of the recovery over a store of facts in cells.
 #![tactic(auto)]
 
 #[cfg(test)]

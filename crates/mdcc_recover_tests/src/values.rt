@@ -3,10 +3,10 @@
 use mdcc_base::{Ballot, BoundedList, Centre, Key, Quorums, TxId};
 use mdcc_def_protocol::Vote;
 use mdcc_facts::Fact;
-use mdcc_facts_listed::ListFacts;
+use mdcc_index::PoolFacts;
 use mdcc_option::{Choice, Cluster, FastLimit, Item, Mark, Schema, Update};
 use mdcc_struct::Options;
-use mdcc_tests::adding::put;
+use mdcc_tests::adding::{no_facts, put};
 use std::alloc::Global;
 use std::test::Fail;
 
@@ -66,8 +66,8 @@ pub fn vote(from: u8, letter: u8, mark: Mark) -> Vote {
 }
 
 /// A store of a centre that accepted its options for these keys, with the value 1.
-pub fn voted(alloc: Global, letters: &[u8]) -> Result<ListFacts, Fail> {
-    let mut store = ListFacts::new(alloc)?;
+pub fn voted(alloc: Global, letters: &[u8]) -> Result<PoolFacts, Fail> {
+    let mut store = no_facts(alloc)?;
     for letter in letters {
         let mut options = Options::new(alloc)?;
         options.insert(tx(), Mark::Accept(choice(*letter, 1)))?;
@@ -78,7 +78,7 @@ pub fn voted(alloc: Global, letters: &[u8]) -> Result<ListFacts, Fail> {
             options,
             offered: None,
         };
-        if !put(&mut store, &fact) {
+        if !put(alloc, &mut store, &fact) {
             return Err("the fact is new".into());
         }
     }

@@ -3,9 +3,9 @@ use crate::values::{LED, cluster, decrease, insert, key, six, tx};
 use mdcc_acceptor::{on_accept, on_prepare, on_propose};
 use mdcc_base::Ballot;
 use mdcc_def_protocol::{AcceptAnswer, PrepareAnswer, ProposeAnswer};
-use mdcc_facts_listed::ListFacts;
 use mdcc_option::{Cause, Mark, Outcome};
 use mdcc_struct::Options;
+use mdcc_tests::adding::no_facts;
 use std::alloc::Global;
 use std::test::Fail;
 
@@ -13,7 +13,7 @@ use std::test::Fail;
 #[test]
 fn an_insert_is_voted(rt: HostRuntime) -> Result<(), Fail> {
     let cluster = cluster()?;
-    let store = ListFacts::new(rt.alloc())?;
+    let store = no_facts(rt.alloc())?;
     let answer = on_propose(&store, &cluster, &insert());
     assert!(rt; matches!(answer, ProposeAnswer::Vote(Mark::Accept(_))));
     let answer = on_propose(&store, &cluster, &decrease(2));

@@ -2,10 +2,11 @@
 use crate::values::{LED, centre, choice, cluster, decrease, holding, insert, item, key, six, tx};
 use mdcc_base::{Ballot, BoundedList, Plain, Quorums, TxId};
 use mdcc_def_protocol::{LeadAnswer, Promise, PromiseAnswer};
-use mdcc_facts_listed::ListFacts;
+use mdcc_index::PoolFacts;
 use mdcc_leader::Leader;
 use mdcc_option::{Choice, Claim, Cluster, FastLimit, Mark, Update};
 use mdcc_struct::Options;
+use mdcc_tests::adding::no_facts;
 use std::alloc::Global;
 use std::process::Abort;
 use std::test::Fail;
@@ -86,7 +87,7 @@ fn is_accepted(options: &Options, tx: TxId) -> Option<bool> {
 // A centre of the cluster promises.
 fn promised(
     leader: &mut Leader,
-    store: &ListFacts,
+    store: &PoolFacts,
     cluster: &Cluster,
     number: u8,
     promise: &Promise,
@@ -115,7 +116,7 @@ fn are_marked(options: &Options, first: bool) -> bool {
 // The structure that is sent once a centre promises.
 fn structure(
     leader: &mut Leader,
-    store: &ListFacts,
+    store: &PoolFacts,
     cluster: &Cluster,
     number: u8,
     promise: &Promise,
@@ -134,7 +135,7 @@ fn structure(
 fn asking(
     rt: &impl Abort,
     alloc: Global,
-    store: &ListFacts,
+    store: &PoolFacts,
     cluster: &Cluster,
     claim: &Claim,
 ) -> Result<Leader, Fail> {
@@ -157,7 +158,7 @@ fn asking(
 #[test]
 fn the_first_three_force_the_first_insert(rt: HostRuntime) -> Result<(), Fail> {
     let cluster = cluster()?;
-    let store = ListFacts::new(rt.alloc())?;
+    let store = no_facts(rt.alloc())?;
     let mut leader = asking(
         &rt,
         rt.alloc(),
@@ -180,7 +181,7 @@ fn force_the_first(
     rt: &impl Abort,
     alloc: Global,
     leader: &mut Leader,
-    store: &ListFacts,
+    store: &PoolFacts,
     cluster: &Cluster,
 ) -> Result<(), Fail> {
     let second = promise(0, 100, second_won(alloc)?);
@@ -210,7 +211,7 @@ fn accepting(alloc: Global, first: u32, second: u32, amount: i64) -> Result<Opti
 fn third(
     alloc: Global,
     leader: &mut Leader,
-    store: &ListFacts,
+    store: &PoolFacts,
     cluster: &Cluster,
     amount: i64,
 ) -> Result<PromiseAnswer, Fail> {
@@ -313,7 +314,7 @@ fn single() -> Result<Cluster, Fail> {
 #[test]
 fn a_claim_without_a_choice_is_rejected(rt: HostRuntime) -> Result<(), Fail> {
     let cluster = single()?;
-    let store = ListFacts::new(rt.alloc())?;
+    let store = no_facts(rt.alloc())?;
     let mut leader = asking(&rt, rt.alloc(), &store, &cluster, &claim(tx(1), 0, None))?;
     let again = leader.lead(&store, &cluster, &claim(tx(2), 0, None))?;
     assert!(rt; matches!(again, LeadAnswer::Prepare { .. }));
@@ -375,7 +376,7 @@ fn is_sent(answer: &LeadAnswer, at: u64) -> bool {
 fn lead_to_the_end(
     rt: &impl Abort,
     leader: &mut Leader,
-    store: &ListFacts,
+    store: &PoolFacts,
     cluster: &Cluster,
 ) -> Result<(), Fail> {
     let later = leader.lead(store, cluster, &claim(tx(6), 3, None))?;
@@ -403,7 +404,7 @@ fn is_in_round(answer: &LeadAnswer, round: u32) -> bool {
 #[test]
 fn a_refused_lead_is_led_anew(rt: HostRuntime) -> Result<(), Fail> {
     let cluster = cluster()?;
-    let store = ListFacts::new(rt.alloc())?;
+    let store = no_facts(rt.alloc())?;
     let mut leader = asking(&rt, rt.alloc(), &store, &cluster, &claim_of(&insert()))?;
     let higher = Ballot {
         round: 7,
@@ -423,7 +424,7 @@ fn a_refused_lead_is_led_anew(rt: HostRuntime) -> Result<(), Fail> {
 #[test]
 fn one_rejection_too_many_is_left_out(rt: HostRuntime) -> Result<(), Fail> {
     let cluster = single()?;
-    let store = ListFacts::new(rt.alloc())?;
+    let store = no_facts(rt.alloc())?;
     let mut leader = asking(&rt, rt.alloc(), &store, &cluster, &claim(tx(1), 0, None))?;
     let votes = rejections(rt.alloc(), 16_384)?;
     let options = structure(&mut leader, &store, &cluster, 1, &promise(0, 100, votes))?;

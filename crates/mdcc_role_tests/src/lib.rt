@@ -1,4 +1,4 @@
-//! Tests of the roles of a centre over the list store.
+//! Tests of the roles of a centre over a store of facts in cells.
 #![tactic(auto)]
 
 #[cfg(test)]

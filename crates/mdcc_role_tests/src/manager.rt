@@ -2,9 +2,9 @@
 use crate::values::{centre, cluster, insert, item, key, tx};
 use mdcc_base::{Ballot, BoundedList, TxId};
 use mdcc_def_protocol::{ManagerAct, Vote};
-use mdcc_facts_listed::ListFacts;
 use mdcc_manager::{Manager, key_refused};
 use mdcc_option::{BeginFault, Cause, Cluster, Mark, Outcome, Part, Transaction, Update};
+use mdcc_tests::adding::no_facts;
 use std::alloc::Global;
 use std::process::Abort;
 use std::test::Fail;
@@ -21,7 +21,7 @@ fn drafted(cluster: &Cluster) -> Result<Transaction, Fail> {
 
 // A manager at centre 1 that began the insert where nothing is held.
 fn beginning(alloc: Global, cluster: &Cluster) -> Result<(Manager, TxId), Fail> {
-    let store = ListFacts::new(alloc)?;
+    let store = no_facts(alloc)?;
     let mut manager = Manager::new(alloc, centre(1), 1)?;
     let begun = manager.begin(&store, &drafted(cluster)?)?;
     Ok((manager, begun))
@@ -78,7 +78,7 @@ fn a_fast_quorum_decides(rt: HostRuntime) -> Result<(), Fail> {
 #[test]
 fn transactions_are_numbered_in_turn(rt: HostRuntime) -> Result<(), Fail> {
     let cluster = cluster()?;
-    let store = ListFacts::new(rt.alloc())?;
+    let store = no_facts(rt.alloc())?;
     let (mut manager, begun) = beginning(rt.alloc(), &cluster)?;
     assert!(rt; manager.is_open(begun));
     assert!(rt; manager.begin(&store, &drafted(&cluster)?)? == tx(2));

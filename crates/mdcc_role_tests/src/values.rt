@@ -1,9 +1,9 @@
 //! Values of worked schedules: an insert of 10 under key a, and decreases of 4.
 use mdcc_base::{Ballot, BoundedList, Centre, Key, Quorums, TxId};
 use mdcc_facts::Fact;
-use mdcc_facts_listed::ListFacts;
+use mdcc_index::PoolFacts;
 use mdcc_option::{Choice, Cluster, FastLimit, Item, Outcome, Schema, Update};
-use mdcc_tests::adding::put;
+use mdcc_tests::adding::{no_facts, put};
 use std::alloc::Global;
 use std::test::Fail;
 
@@ -80,10 +80,10 @@ fn committed(choice: Choice) -> Fact {
 }
 
 /// A store that heard these committed.
-pub fn holding(alloc: Global, choices: Vec<Choice>) -> Result<ListFacts, Fail> {
-    let mut store = ListFacts::new(alloc)?;
+pub fn holding(alloc: Global, choices: Vec<Choice>) -> Result<PoolFacts, Fail> {
+    let mut store = no_facts(alloc)?;
     for choice in choices {
-        if !put(&mut store, &committed(choice)) {
+        if !put(alloc, &mut store, &committed(choice)) {
             return Err("the fact is new".into());
         }
     }
@@ -91,6 +91,6 @@ pub fn holding(alloc: Global, choices: Vec<Choice>) -> Result<ListFacts, Fail> {
 }
 
 /// A store that heard the insert and the decrease of transaction 2 committed.
-pub fn six(alloc: Global) -> Result<ListFacts, Fail> {
+pub fn six(alloc: Global) -> Result<PoolFacts, Fail> {
     holding(alloc, vec![in alloc; insert(), decrease(2)]?)
 }

@@ -2,8 +2,8 @@
 use crate::values::{decrease, holding, insert, item, key, six, tx};
 use mdcc_base::{BoundedList, Plain};
 use mdcc_def_protocol::{Give, Reading};
-use mdcc_facts_listed::ListFacts;
 use mdcc_option::{Delta, Outcome, Token};
+use mdcc_tests::adding::no_facts;
 use mdcc_visible::{on_outcome, on_sync_ask, on_sync_give, read, rebase_due};
 use std::alloc::Global;
 use std::test::Fail;
@@ -53,7 +53,7 @@ fn a_centre_gives_what_it_holds(rt: HostRuntime) -> Result<(), Fail> {
     let give = on_sync_ask(rt.alloc(), &store, &key(b'a'))?.ok_or("version 1")?;
     assert!(rt; is_whole(&give));
     assert!(rt; on_sync_give(rt.alloc(), &store, &give)?.is_none());
-    let behind = ListFacts::new(rt.alloc())?;
+    let behind = no_facts(rt.alloc())?;
     assert!(rt; on_sync_give(rt.alloc(), &behind, &give)?.is_some());
     Ok(())
 }

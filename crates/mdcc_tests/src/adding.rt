@@ -11,12 +11,12 @@ ghost use Rattle.mdcc_def_messages.specs.Lengths.{fact_length};
 ghost use Rattle.mdcc_def_messages.specs.Spelling.{fact_bytes};
 ghost use Rattle.mdcc_def_messages.specs.WellFormed.{IsWellFormedFact};
 ghost use Rattle.mdcc_theorem_encoding.specs.Laws.{AreBytes};
-ghost use Rattle.std.specs.Prelude.{◌≡◌, ◌≤◌, ◌∷◌, ℕ, IfSome, IsTrue, List, OnOk, false, is_some};
+ghost use Rattle.std.specs.Prelude.{◌≡◌, ◌≤◌, ◌∷◌, [], ℕ, IfOk, IfSome, IsTrue, List, OnOk, false, is_some};
 ghost use Rattle.std.specs.Bool.{OnTrue};
 
-use mdcc_base::{Ballot, Key};
+use mdcc_base::{Ballot, Key, Memory};
 use mdcc_facts::{Fact, FactStore, StoreFault};
-use mdcc_facts_listed::ListFacts;
+use mdcc_index::PoolFacts;
 use mdcc_journal::{decode_fact, encode_fact};
 use mdcc_option::Choice;
 use mdcc_struct::Options;
@@ -171,13 +171,20 @@ pub fn add_read<S: FactStore>(
 
 /// Adds a well-formed fact that says nothing a second time, as it is read from its bytes, and answers
 /// whether it was added.
-pub fn put(store: &mut ListFacts, fact: &Fact) -> bool
-    ensures { (facts : List AFact) → ⟦<ListFacts as FactStore>⟧.stands store.old facts
-        → OnTrue result ((read : AFact) × (fact_bytes read ≡ fact_bytes fact.now) × ⟦<ListFacts as FactStore>⟧.stands store.new (read ∷ facts)) }
+pub fn put<S: FactStore>(alloc: Global, store: &mut S, fact: &Fact) -> bool
+    ensures { (facts : List AFact) → S.stands store.old facts
+        → OnTrue result ((read : AFact) × (fact_bytes read ≡ fact_bytes fact.now) × S.stands store.new (read ∷ facts)) }
 {
-    match add_read(store.alloc(), store, fact) {
+    match add_read(alloc, store, fact) {
         Some(Ok(())) => true,
         Some(Err(_)) => false,
         None => false,
     }
+}
+
+/// A store of no facts, with cells for the few that a test puts in.
+pub fn no_facts(alloc: Global) -> Result<PoolFacts, Memory>
+    ensures { IfOk result (λ store. ⟦<PoolFacts as FactStore>⟧.stands store []) }
+{
+    PoolFacts::new(alloc, 1024)
 }

@@ -4,7 +4,7 @@ use crate::adding::put;
 use crate::facts::{LED, committed, decrease, key, led, tx};
 use mdcc_base::Ballot;
 use mdcc_facts::{Fact, FactStore};
-use mdcc_facts_listed::ListFacts;
+use mdcc_index::PoolFacts;
 use mdcc_option::{Mark, Outcome};
 use mdcc_struct::Options;
 use std::alloc::Global;
@@ -14,7 +14,7 @@ use std::test::Fail;
 const NEXT: Ballot = Ballot { round: 2, ..LED };
 
 // The ballots of the votes below a ballot.
-fn are_voted_below(store: &ListFacts) -> bool {
+fn are_voted_below(store: &PoolFacts) -> bool {
     let a = key();
     store.voted_below(&a, 1, NEXT) == LED
         && store.voted_below(&a, 1, LED) == Ballot::FAST
@@ -52,7 +52,7 @@ fn four(alloc: Global) -> Result<Options, Fail> {
 }
 
 // How many of those are voted. None is finished.
-fn are_counted(store: &ListFacts, options: &Options) -> bool {
+fn are_counted(store: &PoolFacts, options: &Options) -> bool {
     let a = key();
     store.count_past(&a, 1, LED, options) == 2
         && store.count_past(&a, 1, Ballot::FAST, options) == 1
@@ -68,7 +68,7 @@ fn voted_transactions_are_counted(rt: HostRuntime) -> Result<(), Fail> {
 }
 
 // The ballot, the number and whether it accepts, of the mark after a transaction.
-fn after(store: &ListFacts, below: Ballot, last: Option<u32>) -> Option<(Ballot, u32, bool)> {
+fn after(store: &PoolFacts, below: Ballot, last: Option<u32>) -> Option<(Ballot, u32, bool)> {
     let last = last.map(|seq: u32| tx(seq));
     match store.mark_after(&key(), 1, below, last) {
         Some((ballot, tx, mark)) => Some((ballot, tx.seq, matches!(mark, Mark::Accept(_)))),
@@ -76,7 +76,7 @@ fn after(store: &ListFacts, below: Ballot, last: Option<u32>) -> Option<(Ballot,
     }
 }
 
-fn are_in_turn(store: &ListFacts) -> bool {
+fn are_in_turn(store: &PoolFacts) -> bool {
     after(store, NEXT, None) == Some((LED, 2, true))
         && after(store, NEXT, Some(2)) == Some((LED, 3, true))
         && after(store, NEXT, Some(3)) == Some((LED, 4, false))
@@ -93,7 +93,7 @@ fn marks_are_given_one_after_the_other(rt: HostRuntime) -> Result<(), Fail> {
 }
 
 // Only the first transaction is heard, and the fourth has no choice.
-fn is_one_ended(store: &ListFacts) -> bool {
+fn is_one_ended(store: &PoolFacts) -> bool {
     store.is_settled(tx(1))
         && !store.is_settled(tx(2))
         && !store.finished(tx(1))
@@ -124,7 +124,7 @@ fn an_abort_ends_a_transaction(rt: HostRuntime) -> Result<(), Fail> {
         tx: tx(2),
         outcome: Outcome::Abort,
     };
-    assert!(rt; put(&mut store, &aborted) && store.is_settled(tx(2)));
+    assert!(rt; put(rt.alloc(), &mut store, &aborted) && store.is_settled(tx(2)));
     assert!(rt; store.ended(tx(2)) == Some(false) && store.write_set(tx(2)).is_none());
     let left = [(tx(3), decrease(3).write_set)];
     let all = store.unresolved_all(rt.alloc())?;
@@ -138,7 +138,7 @@ fn a_65th_delta_would_crowd(rt: HostRuntime) -> Result<(), Fail> {
     let mut store = led(&rt, rt.alloc())?;
     for seq in 2..66 {
         let fact = committed(&rt, &decrease(seq));
-        assert!(rt; !store.would_crowd(&fact) && put(&mut store, &fact));
+        assert!(rt; !store.would_crowd(&fact) && put(rt.alloc(), &mut store, &fact));
     }
     assert!(rt; store.would_crowd(&committed(&rt, &decrease(66))));
     assert!(rt; !store.would_crowd(&committed(&rt, &decrease(65))));

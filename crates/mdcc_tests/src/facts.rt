@@ -1,10 +1,10 @@
 //! What a store of facts answers at telling moments of worked schedules. The facts of a centre are
 //! put in by hand.
-use crate::adding::put;
+use crate::adding::{no_facts, put};
 use mdcc_base::{Ballot, BoundedList, Centre, Key, Plain, TxId};
 use mdcc_def_protocol::Load;
 use mdcc_facts::{Fact, FactStore};
-use mdcc_facts_listed::ListFacts;
+use mdcc_index::PoolFacts;
 use mdcc_option::{Choice, Delta, Item, Mark, Outcome, Seen, Update};
 use mdcc_struct::Options;
 use std::alloc::Global;
@@ -99,7 +99,7 @@ fn seen(seqs: &[u32]) -> Seen {
 
 // The marks of the votes below a ballot, by place.
 fn mark(
-    store: &ListFacts,
+    store: &PoolFacts,
     key: &Key,
     version: u64,
     below: Ballot,
@@ -145,25 +145,25 @@ fn fast_vote(alloc: Global, choice: &Choice) -> Result<Fact, Fail> {
 }
 
 // A store that heard an insert of this value.
-fn holding(rt: &impl Abort, alloc: Global, value: i64) -> Result<ListFacts, Fail> {
-    let mut store = ListFacts::new(alloc)?;
-    assert!(rt; put(&mut store, &committed(rt, &insert(rt, value))));
+fn holding(rt: &impl Abort, alloc: Global, value: i64) -> Result<PoolFacts, Fail> {
+    let mut store = no_facts(alloc)?;
+    assert!(rt; put(alloc, &mut store, &committed(rt, &insert(rt, value))));
     Ok(store)
 }
 
 // Whether this choice is the one at a place of the unresolved.
-fn is_unresolved(store: &ListFacts, place: usize, choice: &Choice) -> bool {
+fn is_unresolved(store: &PoolFacts, place: usize, choice: &Choice) -> bool {
     store.unresolved(place) == Some((choice.tx, choice.write_set.copy()))
 }
 
 // Whether the sums of a version of the key, where these were seen, are these.
-fn is_load(store: &ListFacts, version: u64, seen: &[TxId], expected: Load) -> bool {
+fn is_load(store: &PoolFacts, version: u64, seen: &[TxId], expected: Load) -> bool {
     store.load(&key(), version, seen) == expected
 }
 
 // Whether the mark at a place of the votes below a ballot is this transaction's.
 fn is_mark(
-    store: &ListFacts,
+    store: &PoolFacts,
     version: u64,
     below: Ballot,
     place: usize,
@@ -173,7 +173,7 @@ fn is_mark(
 }
 
 // Whether a version of the key is held, with this item and these deltas.
-fn is_held(store: &ListFacts, version: u64, value: i64, seqs: &[u32]) -> bool {
+fn is_held(store: &PoolFacts, version: u64, value: i64, seqs: &[u32]) -> bool {
     let a = key();
     store.current(&a) == version
         && store.base(&a) == Some(item(value))
@@ -182,18 +182,18 @@ fn is_held(store: &ListFacts, version: u64, value: i64, seqs: &[u32]) -> bool {
 
 // ---- an insert of 10, at the centre that began it: voted, and heard committed
 
-fn has_nothing(store: &ListFacts) -> bool {
+fn has_nothing(store: &PoolFacts) -> bool {
     let a = key();
     store.current(&a) == 0 && store.base(&a).is_none() && store.promise(&a, 0) == Ballot::FAST
 }
 
-fn has_the_load_of_a_write(store: &ListFacts) -> bool {
+fn has_the_load_of_a_write(store: &PoolFacts) -> bool {
     is_load(store, 0, &[], load(1, 1, 0, 0, 0))
         && is_load(store, 0, &[tx(1)], load(1, 0, 0, 0, 0))
         && store.entries(&key(), 0) == (1, 0)
 }
 
-fn has_one_mark(store: &ListFacts) -> bool {
+fn has_one_mark(store: &PoolFacts) -> bool {
     is_mark(store, 0, LED, 0, (Ballot::FAST, 1, true))
         && mark(store, &key(), 0, LED, 1).is_none()
         && mark(store, &key(), 0, Ballot::FAST, 0).is_none()
@@ -202,15 +202,15 @@ fn has_one_mark(store: &ListFacts) -> bool {
 #[test]
 fn an_insert_is_held_once_it_is_heard(rt: HostRuntime) -> Result<(), Fail> {
     let insert = insert(&rt, 10);
-    let mut store = ListFacts::new(rt.alloc())?;
-    assert!(rt; put(&mut store, &Fact::Booted(1)) && store.epoch() == 1);
-    assert!(rt; put(&mut store, &fast_vote(rt.alloc(), &insert)?));
+    let mut store = no_facts(rt.alloc())?;
+    assert!(rt; put(rt.alloc(), &mut store, &Fact::Booted(1)) && store.epoch() == 1);
+    assert!(rt; put(rt.alloc(), &mut store, &fast_vote(rt.alloc(), &insert)?));
     assert!(rt; has_nothing(&store) && has_the_load_of_a_write(&store) && has_one_mark(&store));
     let vote = store.vote_of(&key(), 0, tx(1));
     assert!(rt; vote == Some((Ballot::FAST, Mark::Accept(insert.copy()))));
     assert!(rt; store.heard(tx(1)).is_none());
     assert!(rt; is_unresolved(&store, 0, &insert) && store.unresolved(1).is_none());
-    assert!(rt; put(&mut store, &committed(&rt, &insert)));
+    assert!(rt; put(rt.alloc(), &mut store, &committed(&rt, &insert)));
     assert!(rt; is_held(&store, 1, 10, &[]) && store.heard(tx(1)).is_some());
     assert!(rt; store.unresolved(0).is_none() && is_load(&store, 1, &[], load(0, 0, 0, 0, 0)));
     Ok(())
@@ -224,14 +224,14 @@ pub(crate) fn decrease(seq: u32) -> Choice {
 }
 
 // The insert is held, and the first decrease is voted.
-fn voting(rt: &impl Abort, alloc: Global) -> Result<ListFacts, Fail> {
+fn voting(rt: &impl Abort, alloc: Global) -> Result<PoolFacts, Fail> {
     let mut store = holding(rt, alloc, 10)?;
-    assert!(rt; put(&mut store, &fast_vote(alloc, &decrease(2))?));
+    assert!(rt; put(alloc, &mut store, &fast_vote(alloc, &decrease(2))?));
     Ok(store)
 }
 
 // The leader's structure is voted too.
-pub(crate) fn led(rt: &impl Abort, alloc: Global) -> Result<ListFacts, Fail> {
+pub(crate) fn led(rt: &impl Abort, alloc: Global) -> Result<PoolFacts, Fail> {
     let mut store = voting(rt, alloc)?;
     let marks = [
         (4, Mark::Reject),
@@ -239,7 +239,7 @@ pub(crate) fn led(rt: &impl Abort, alloc: Global) -> Result<ListFacts, Fail> {
         (3, Mark::Accept(decrease(3))),
     ];
     let vote = voted(alloc, key(), 1, LED, &marks, None)?;
-    assert!(rt; put(&mut store, &vote) && !put(&mut store, &vote));
+    assert!(rt; put(alloc, &mut store, &vote) && !put(alloc, &mut store, &vote));
     Ok(store)
 }
 
@@ -254,14 +254,14 @@ fn a_promise_is_kept_once(rt: HostRuntime) -> Result<(), Fail> {
         high: 101,
         ballot: LED,
     };
-    assert!(rt; put(&mut store, &promise) && !put(&mut store, &promise));
+    assert!(rt; put(rt.alloc(), &mut store, &promise) && !put(rt.alloc(), &mut store, &promise));
     assert!(rt; store.promised(&a, 1, LED) == Some(101));
     assert!(rt; store.promise(&a, 101) == LED && store.promise(&a, 102) == Ballot::FAST);
     Ok(())
 }
 
 // The leader's structure, below the next ballot.
-fn has_three_marks(store: &ListFacts) -> bool {
+fn has_three_marks(store: &PoolFacts) -> bool {
     let next = Ballot { round: 2, ..LED };
     is_mark(store, 1, next, 0, (LED, 2, true))
         && is_mark(store, 1, next, 1, (LED, 3, true))
@@ -282,7 +282,7 @@ fn decreases_are_summed_once_each(rt: HostRuntime) -> Result<(), Fail> {
     Ok(())
 }
 
-fn has_the_delta_of_the_third(store: &ListFacts) -> bool {
+fn has_the_delta_of_the_third(store: &PoolFacts) -> bool {
     let delta = Delta {
         tx: tx(3),
         amounts: BoundedList::from_slice(&[(1, -4)]).unwrap(),
@@ -293,10 +293,10 @@ fn has_the_delta_of_the_third(store: &ListFacts) -> bool {
 #[test]
 fn decreases_are_executed_once_each(rt: HostRuntime) -> Result<(), Fail> {
     let mut store = led(&rt, rt.alloc())?;
-    assert!(rt; put(&mut store, &committed(&rt, &decrease(3))));
+    assert!(rt; put(rt.alloc(), &mut store, &committed(&rt, &decrease(3))));
     assert!(rt; is_unresolved(&store, 0, &decrease(2)) && store.unresolved(1).is_none());
     let first = committed(&rt, &decrease(2));
-    assert!(rt; put(&mut store, &first) && !put(&mut store, &first));
+    assert!(rt; put(rt.alloc(), &mut store, &first) && !put(rt.alloc(), &mut store, &first));
     assert!(rt; is_held(&store, 1, 10, &[2, 3]) && has_the_delta_of_the_third(&store));
     assert!(rt; is_load(&store, 1, &[], load(0, 2, 2, 8, 0)));
     Ok(())
@@ -312,20 +312,20 @@ fn aborted(seq: u32) -> Fact {
 }
 
 // The increase is held.
-fn raised(rt: &impl Abort, alloc: Global) -> Result<ListFacts, Fail> {
+fn raised(rt: &impl Abort, alloc: Global) -> Result<PoolFacts, Fail> {
     let more = choice(key(), 2, 1, add(5));
     let mut store = holding(rt, alloc, 0)?;
-    assert!(rt; put(&mut store, &fast_vote(alloc, &more)?));
-    assert!(rt; put(&mut store, &committed(rt, &more)));
+    assert!(rt; put(alloc, &mut store, &fast_vote(alloc, &more)?));
+    assert!(rt; put(alloc, &mut store, &committed(rt, &more)));
     Ok(store)
 }
 
 // And the decrease is rejected.
-fn rejecting(rt: &impl Abort, alloc: Global, less: &Choice) -> Result<ListFacts, Fail> {
+fn rejecting(rt: &impl Abort, alloc: Global, less: &Choice) -> Result<PoolFacts, Fail> {
     let mut store = raised(rt, alloc)?;
     let mark = [(3, Mark::Reject)];
     let vote = voted(alloc, key(), 1, Ballot::FAST, &mark, Some(less.copy()))?;
-    assert!(rt; put(&mut store, &vote));
+    assert!(rt; put(alloc, &mut store, &vote));
     Ok(store)
 }
 
@@ -337,16 +337,16 @@ fn a_rejected_decrease_is_void(rt: HostRuntime) -> Result<(), Fail> {
     assert!(rt; is_mark(&store, 1, LED, 1, (Ballot::FAST, 3, false)));
     assert!(rt; is_unresolved(&store, 0, &less));
     assert!(rt; store.choice_of(&key(), 1, tx(3)) == Some(less.copy()));
-    assert!(rt; put(&mut store, &aborted(3)));
+    assert!(rt; put(rt.alloc(), &mut store, &aborted(3)));
     assert!(rt; store.heard(tx(3)) == Some(Outcome::Abort) && store.unresolved(0).is_none());
     Ok(())
 }
 
 // The decrease was rejected, and the item is to be written again.
-fn rebasing(rt: &impl Abort, alloc: Global, rebase: &Choice) -> Result<ListFacts, Fail> {
+fn rebasing(rt: &impl Abort, alloc: Global, rebase: &Choice) -> Result<PoolFacts, Fail> {
     let mut store = rejecting(rt, alloc, &choice(key(), 3, 1, add(-5)))?;
-    assert!(rt; put(&mut store, &aborted(3)));
-    assert!(rt; put(&mut store, &fast_vote(alloc, rebase)?));
+    assert!(rt; put(alloc, &mut store, &aborted(3)));
+    assert!(rt; put(alloc, &mut store, &fast_vote(alloc, rebase)?));
     Ok(store)
 }
 
@@ -356,7 +356,7 @@ fn a_rebase_starts_anew(rt: HostRuntime) -> Result<(), Fail> {
     let mut store = rebasing(&rt, rt.alloc(), &rebase)?;
     assert!(rt; is_load(&store, 1, &[tx(2)], load(1, 1, 1, 0, 5)));
     assert!(rt; store.executed(&key()) == seen(&[2]));
-    assert!(rt; put(&mut store, &committed(&rt, &rebase)));
+    assert!(rt; put(rt.alloc(), &mut store, &committed(&rt, &rebase)));
     assert!(rt; is_held(&store, 2, 5, &[]) && store.delta(&key(), tx(2)).is_none());
     assert!(rt; is_load(&store, 2, &[], load(0, 0, 0, 0, 0)));
     Ok(())
@@ -367,12 +367,12 @@ fn a_decrease_has_room_after_a_rebase(rt: HostRuntime) -> Result<(), Fail> {
     let rebase = choice(key(), 4, 1, write(&rt, 5, &[tx(2)]));
     let again = choice(key(), 5, 2, add(-5));
     let mut store = rebasing(&rt, rt.alloc(), &rebase)?;
-    assert!(rt; put(&mut store, &committed(&rt, &rebase)));
+    assert!(rt; put(rt.alloc(), &mut store, &committed(&rt, &rebase)));
     let marks = [(5, Mark::Accept(again.copy()))];
     let vote = voted(rt.alloc(), key(), 2, LED, &marks, None)?;
-    assert!(rt; put(&mut store, &vote));
+    assert!(rt; put(rt.alloc(), &mut store, &vote));
     assert!(rt; store.entries(&key(), 2) == (0, 0) && is_load(&store, 2, &[], load(0, 1, 1, 5, 0)));
-    assert!(rt; put(&mut store, &committed(&rt, &again)));
+    assert!(rt; put(rt.alloc(), &mut store, &committed(&rt, &again)));
     assert!(rt; store.executed(&key()) == seen(&[5]));
     Ok(())
 }
@@ -380,10 +380,16 @@ fn a_decrease_has_room_after_a_rebase(rt: HostRuntime) -> Result<(), Fail> {
 // A vote on a choice that is heard aborted weighs nothing.
 #[test]
 fn a_void_vote_weighs_nothing(rt: HostRuntime) -> Result<(), Fail> {
-    let mut store = ListFacts::new(rt.alloc())?;
-    assert!(rt; put(&mut store, &fast_vote(rt.alloc(), &insert(&rt, 1))?));
+    let mut store = no_facts(rt.alloc())?;
+    assert!(rt;
+        put(
+            rt.alloc(),
+            &mut store,
+            &fast_vote(rt.alloc(), &insert(&rt, 1))?
+        )
+    );
     assert!(rt; is_load(&store, 0, &[], load(1, 1, 0, 0, 0)));
-    assert!(rt; put(&mut store, &aborted(1)));
+    assert!(rt; put(rt.alloc(), &mut store, &aborted(1)));
     assert!(rt; is_load(&store, 0, &[], load(0, 0, 0, 0, 0)));
     assert!(rt; store.entries(&key(), 0) == (1, 0));
     Ok(())
