@@ -1,10 +1,7 @@
 //! Boots from a few payloads.
-ghost use Rattle.std.specs.Prelude.{[]};
-
 use crate::setup::{BOOTED, FLOOR, HEARD, PROMISED, five_centres};
 use mdcc_base::{Centre, HeapList};
 use mdcc_def_messages::Fact;
-use mdcc_facts::FactStore;
 use mdcc_index::PoolFacts;
 use mdcc_node::{BootFault, Node};
 use mdcc_node_boot::loading::are_short;
@@ -35,15 +32,15 @@ fn epoch_in(fact: &Fact) -> u32 {
     }
 }
 
-// The epoch of the node that is booted over an empty store, where its fact is the boot of that epoch, or why there is none.
-fn booted_over<S: FactStore + Drop>(
+// The epoch of the node that is booted over an empty store of so many cells, where its fact is the boot of that epoch, or why
+// there is none.
+fn booted_within(
     rt: &impl Abort,
     alloc: Global,
-    store: S,
+    cells: u32,
     payloads: &[&[u8]],
-) -> Result<Result<u32, BootFault>, Fail>
-    requires { S.stands store [] }
-{
+) -> Result<Result<u32, BootFault>, Fail> {
+    let store = PoolFacts::new(alloc, cells).ok().ok_or("a store")?;
     let cluster = five_centres(rt);
     let centre = Centre::new(1).unwrap_or_default();
     let kept = logged(alloc, payloads)?;
@@ -63,23 +60,13 @@ fn booted_over<S: FactStore + Drop>(
     }
 }
 
+// Over a store in which they do not lack.
 fn booted(
     rt: &impl Abort,
     alloc: Global,
     payloads: &[&[u8]],
 ) -> Result<Result<u32, BootFault>, Fail> {
-    booted_within(rt, alloc, 1024, payloads)
-}
-
-// Over a store of so many cells.
-fn booted_within(
-    rt: &impl Abort,
-    alloc: Global,
-    cells: u32,
-    payloads: &[&[u8]],
-) -> Result<Result<u32, BootFault>, Fail> {
-    let store = PoolFacts::new(alloc, cells).ok().ok_or("a store")?;
-    booted_over(rt, alloc, store, payloads)
+    booted_within(rt, alloc, 64, payloads)
 }
 
 #[test]

@@ -1,10 +1,9 @@
-//! StartGives over disks in memory, and after a crash in each call of an append.
-ghost use Rattle.std.specs.Prelude.{[], length, ◌≤◌};
+//! Starts over disks in memory, and after a crash in each call of an append.
+ghost use Rattle.std.specs.Prelude.{length, ◌≤◌};
 
 use crate::setup::{BOOTED, HEARD, PROMISED, five_centres};
 use mdcc_base::{Centre, Image};
 use mdcc_disks::MemoryDisks;
-use mdcc_facts::FactStore;
 use mdcc_index::PoolFacts;
 use mdcc_log::{Frames, LogFault};
 use mdcc_node_boot::parts_belong::is_centre;
@@ -42,17 +41,18 @@ fn append(alloc: Global, disks: &mut MemoryDisks, payload: &[u8]) -> Result<(), 
     log.append(disks, payload)
 }
 
-// The epoch of the centre that starts over the disks and an empty store, where its node is of that epoch, or why none starts.
-fn restarted_over<S: FactStore + Drop>(
+// The epoch of the centre that starts over the disks and an empty store of so many cells, where its node is of that epoch, or why
+// none starts. A checkpoint is due after so many frames.
+fn restarted_over(
     rt: &impl Abort,
     alloc: Global,
-    store: S,
+    cells: u32,
     disks: &mut MemoryDisks,
     every: u32,
 ) -> Result<Result<u32, StartFault>, Fail>
-    requires empty { S.stands store [] }
-    requires often { 1 ≤ every }
+    requires { 1 ≤ every }
 {
+    let store = PoolFacts::new(alloc, cells).ok().ok_or("a store")?;
     let cluster = five_centres(rt);
     let centre = Centre::new(1).unwrap_or_default();
     if !is_centre(&cluster, centre.number()) {
@@ -88,8 +88,7 @@ fn restarted_every(
 ) -> Result<Result<u32, StartFault>, Fail>
     requires { 1 ≤ every }
 {
-    let store = PoolFacts::new(alloc, 1024).ok().ok_or("a store")?;
-    restarted_over(rt, alloc, store, disks, every)
+    restarted_over(rt, alloc, 64, disks, every)
 }
 
 // Over a store of so many cells.
@@ -99,8 +98,7 @@ fn restarted_within(
     cells: u32,
     disks: &mut MemoryDisks,
 ) -> Result<Result<u32, StartFault>, Fail> {
-    let store = PoolFacts::new(alloc, cells).ok().ok_or("a store")?;
-    restarted_over(rt, alloc, store, disks, 1024)
+    restarted_over(rt, alloc, cells, disks, 1024)
 }
 
 // Whether the log has these payloads.
