@@ -5,6 +5,7 @@ pub mod Kept
 pub mod Loaded
 pub mod Logged
 pub mod Named
+pub mod NodeSteps
 pub mod Opens
 pub mod Others
 pub mod Persisted

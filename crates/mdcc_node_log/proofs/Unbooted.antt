@@ -1,35 +1,26 @@
 -- Why a log gives no node, and what stands then.
-use Rattle.std.proofs.Common.{◌≡◌, ◌∙◌, [], Err, IsErrOf, List, Ok, Result, ap, arith, map, refl, subst, ℕ}
+use Rattle.std.proofs.Common.{◌≡◌, ◌∙◌, [], Err, IsErrOf, List, Ok, Result, ap, map, refl, subst, ℕ}
 use Rattle.std.specs.Bool.{OnFalse}
 use Rattle.mdcc_node_boot.specs.Loading.{HoldsFacts, boot_by, fact_read, is_boot_memory}
 use Rattle.mdcc_log_file.specs.Area.{payloads}
 use Rattle.mdcc_log_file.specs.declared.fault.LogFault.{LogFault}
 use Rattle.mdcc_node_log.specs.Opening.{IsOpeningFault, IsUnbooted, StandsUnlessDisk}
-use Rattle.mdcc_node_log.specs.Nodes.{cells_of, facts_at_boot}
-use Rattle.mdcc_index.specs.Stores.{Represents, Store}
-use Rattle.mdcc_def_messages.specs.Lengths.{cells_needed}
+use Rattle.mdcc_node_log.specs.Nodes.{CentreStore, are_stored, facts_at_boot, store_cells}
 use Rattle.mdcc_def_messages.specs.declared.facts.Fact.{Fact}
 use Rattle.mdcc_option.specs.declared.cluster.Cluster.{Cluster}
 use Rattle.mdcc_node_log.specs.Faults.{of_boot, of_log}
 use Rattle.mdcc_node_log.specs.declared.fault.StartFault.{StartFault}
 use Rattle.mdcc_def_rules.specs.declared.node.BootFault.{BootFault}
 
--- the cells of a store that no fact uses, and those that a fact needs
-abbrev pub spare_of : Store → ℕ
-spare_of store = store.cells.spare
-
-abbrev pub needed_in : Store → Fact → ℕ
-needed_in store fact = cells_needed fact
-
--- an empty store has all cells
-pub empty_store : (store : Store) (cluster : Cluster) → Represents store [] → spare_of store ≡ cluster.cells → HoldsFacts Represents spare_of needed_in (cells_of cluster) store []
-empty_store store cluster empty spare = record { list = empty; spare = omega (spare, arith); needs = λ s fact. refl; counted = refl }
+-- an empty store with the cells of the cluster
+pub empty_store : (store : CentreStore) (cluster : Cluster) → are_stored store [] → store_cells store ≡ cluster.cells → HoldsFacts are_stored store_cells cluster.cells store []
+empty_store store cluster empty cells = record { list = empty; total = cells; counted = refl }
 
 -- ---- a boot over a copy of the cluster
 
 -- the node has these facts
-pub boots_by : (copy cluster : Cluster) (all : List (List ℕ)) (facts : List Fact) → copy ≡ cluster → boot_by (cells_of cluster) copy (map fact_read all) ≡ Ok facts → facts_at_boot cluster all ≡ Ok facts
-boots_by copy cluster all facts same e = subst (λ (of : Cluster). boot_by (cells_of cluster) of (map fact_read all) ≡ Ok facts) same e
+pub boots_by : (copy cluster : Cluster) (all : List (List ℕ)) (facts : List Fact) → copy ≡ cluster → boot_by cluster.cells copy (map fact_read all) ≡ Ok facts → facts_at_boot cluster all ≡ Ok facts
+boots_by copy cluster all facts same e = subst (λ (of : Cluster). boot_by cluster.cells of (map fact_read all) ≡ Ok facts) same e
 
 -- there is none for this reason
 boot_refused : (cluster : Cluster) (all : List (List ℕ)) (fault : BootFault) → OnFalse (is_boot_memory fault) (facts_at_boot cluster all ≡ Err fault) → IsUnbooted cluster all (of_boot fault)
@@ -39,9 +30,9 @@ boot_refused cluster all (BootFault.Room needed cells) h = h
 boot_refused cluster all BootFault.Memory h = tt
 
 pub boot_refused_by : (copy cluster : Cluster) (all : List (List ℕ)) (fault : BootFault) → copy ≡ cluster
-    → OnFalse (is_boot_memory fault) (boot_by (cells_of cluster) copy (map fact_read all) ≡ Err fault) → IsUnbooted cluster all (of_boot fault)
+    → OnFalse (is_boot_memory fault) (boot_by cluster.cells copy (map fact_read all) ≡ Err fault) → IsUnbooted cluster all (of_boot fault)
 boot_refused_by copy cluster all fault same h =
-    boot_refused cluster all fault (subst (λ (of : Cluster). OnFalse (is_boot_memory fault) (boot_by (cells_of cluster) of (map fact_read all) ≡ Err fault)) same h)
+    boot_refused cluster all fault (subst (λ (of : Cluster). OnFalse (is_boot_memory fault) (boot_by cluster.cells of (map fact_read all) ≡ Err fault)) same h)
 
 pub boot_may : (fault : BootFault) → IsOpeningFault (of_boot fault)
 boot_may BootFault.Epochs = tt

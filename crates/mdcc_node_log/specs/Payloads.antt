@@ -1,7 +1,7 @@
 -- What a start does over any log, whatever its payloads are.
 use Rattle.std.specs.List.{AllByRecursion}
 use Rattle.std.specs.Prelude.{Err, IsTrue, List, Ok, Result, ℕ, [], length, map, ⊤, ◌+◌, ◌++◌, ◌∷◌, ◌≡◌}
-use Rattle.mdcc_node_boot.specs.Loading.{AreWithinFrames, Cells, boot_by, fact_read}
+use Rattle.mdcc_node_boot.specs.Loading.{AreWithinFrames, boot_by, fact_read}
 use Rattle.mdcc_disks.specs.Disks.{Disk}
 use Rattle.mdcc_log_file.specs.Area.{payloads}
 use Rattle.mdcc_log.specs.AtRest.{IsAtRest}
@@ -23,11 +23,11 @@ use Rattle.mdcc_node_log.specs.declared.starting.Running.{Running}
 
 -- ---- its boot
 
-module _ {S : Type 0} (stands : S → List Fact → Type 0) (room : S → ℕ) (cells_for : S → Fact → ℕ) (cells : Cells) (cluster : Cluster) (me : ℕ) where
+module _ {S : Type 0} (stands : S → List Fact → Type 0) (cells : S → ℕ) (total : ℕ) (cluster : Cluster) (me : ℕ) where
   -- the node that these payloads give, with the new boot, or why they give none
   abbrev pub BootsFrom : List (List ℕ) → Result (Node S × Fact) StartFault → Type 0
-  BootsFrom all (Ok booted) = Boots stands room cells_for cells (Ok booted) cluster me (boot_by cells cluster (map fact_read all))
-  BootsFrom all (Err (StartFault.Boot fault)) = Boots {S = S} stands room cells_for cells (Err fault) cluster me (boot_by cells cluster (map fact_read all))
+  BootsFrom all (Ok booted) = Boots stands cells total (Ok booted) cluster me (boot_by total cluster (map fact_read all))
+  BootsFrom all (Err (StartFault.Boot fault)) = Boots {S = S} stands cells total (Err fault) cluster me (boot_by total cluster (map fact_read all))
   BootsFrom all (Err fault) = ⊤
 
 -- ---- all of it
@@ -51,7 +51,7 @@ module _ {D : Type 0} (disk : D → ℕ → Disk) (may_leave : D → ℕ → Lis
     pub read : WereRead all
     pub open_log : AreOpen log all
 
-  module _ {S : Type 0} (stands : S → List Fact → Type 0) (room : S → ℕ) (cells_for : S → Fact → ℕ) (cells : Cells) (cluster : Cluster) where
+  module _ {S : Type 0} (stands : S → List Fact → Type 0) (cells : S → ℕ) (total : ℕ) (cluster : Cluster) where
     -- The node boots from the payloads that were read, and the log has the new boot behind them.
     pub record StartsFrom (centre : Running S) : Type 0 where
       pub all : List (List ℕ)
@@ -59,7 +59,7 @@ module _ {D : Type 0} (disk : D → ℕ → Disk) (may_leave : D → ℕ → Lis
       pub bytes : AllByRecursion AreBytes all
       pub short : AreWithinFrames all
       pub read : WereRead all
-      pub boots : BootsFrom stands room cells_for cells cluster me all (Ok (centre.node, boot))
+      pub boots : BootsFrom stands cells total cluster me all (Ok (centre.node, boot))
       pub epoch : (facts : List Fact) → RepresentsCentre stands centre.node cluster me facts initial_volatile → centre.epoch ≡ epoch_of facts
       pub open_log : AreOpen centre.log (all ++ fact_bytes boot ∷ [])
 
@@ -67,14 +67,14 @@ module _ {D : Type 0} (disk : D → ℕ → Disk) (may_leave : D → ℕ → Lis
     pub record GivesNoNode (fault : BootFault) : Type 0 where
       pub all : List (List ℕ)
       pub opened : HasOpened all
-      pub boots : BootsFrom {S = S} stands room cells_for cells cluster me all (Err (StartFault.Boot fault))
+      pub boots : BootsFrom {S = S} stands cells total cluster me all (Err (StartFault.Boot fault))
 
     -- A node boots from them, and the open log has no room for its boot.
     pub record HasNoRoomForBoot : Type 0 where
       pub all : List (List ℕ)
       pub opened : HasOpened all
       pub booted : Node S × Fact
-      pub boots : BootsFrom stands room cells_for cells cluster me all (Ok booted)
+      pub boots : BootsFrom stands cells total cluster me all (Ok booted)
       pub full : IsFull opened.log (length (fact_bytes booted.1))
 
     -- by why it ended; a log that is none, a failed call of a disk and want of memory are said apart

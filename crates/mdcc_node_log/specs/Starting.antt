@@ -1,7 +1,6 @@
 -- What comes of a start over a log of facts.
 use Rattle.std.specs.Prelude.{Err, IsTrue, List, Ok, Result, length, ℕ, ◌+◌, ◌-◌, ◌<◌, ◌^◌, ◌∷◌, ◌≡◌, ◌≤◌, ⊤}
-use Rattle.mdcc_node_boot.specs.Loading.{Cells, boot_by}
-use Rattle.mdcc_base.specs.Counts.{sum_over}
+use Rattle.mdcc_node_boot.specs.Loading.{boot_by}
 use Rattle.mdcc_disks.specs.Disks.{Disk}
 use Rattle.mdcc_log_file.specs.Area.{AreaLog, payloads, read_areas}
 use Rattle.mdcc_log.specs.AtRest.{IsAtRest}
@@ -12,6 +11,7 @@ use Rattle.mdcc_log_file.specs.Log.{log_bytes, log_limit}
 use Rattle.mdcc_node.specs.Represents.{RepresentsCentre}
 use Rattle.mdcc_node.specs.declared.node.Node.{Node}
 use Rattle.mdcc_option.specs.declared.cluster.Cluster.{Cluster}
+use Rattle.mdcc_def_protocol.specs.Cells.{cells_held}
 use Rattle.mdcc_def_protocol.specs.Facts.{epoch_of}
 use Rattle.mdcc_def_protocol.specs.Volatile.{initial_volatile}
 use Rattle.mdcc_def_messages.specs.declared.facts.Fact.{Fact}
@@ -20,6 +20,7 @@ use Rattle.mdcc_theorem_node_steps.specs.NodeInvariant.{fact_payloads}
 use Rattle.mdcc_node_log.specs.declared.fault.StartFault.{StartFault}
 use Rattle.mdcc_node_log.specs.declared.starting.Running.{Running}
 use Rattle.mdcc_def_rules.specs.Boot.{next_boot}
+use Rattle.mdcc_def_messages.specs.Lengths.{cells_needed}
 use Rattle.mdcc_def_messages.specs.Spelling.{encodings_of}
 
 -- ---- what stands before it
@@ -44,17 +45,18 @@ pub record HasLogRoom (every : ℕ) (first second : Disk) : Type 0 where
 abbrev pub size_with_boot : List Fact → ℕ
 size_with_boot facts = length (log_bytes (encodings_of (next_boot facts ∷ facts)))
 
--- what a boot makes of these facts over an empty store with these cells: they and the new boot, or why there is no node
-abbrev pub booted_over : Cells → Cluster → List Fact → Result (List Fact) BootFault
-booted_over cells cluster facts = boot_by cells cluster (fact_payloads facts)
+-- what a boot makes of these facts over an empty store with so many cells: they and the new boot, or why there is no node
+abbrev pub booted_over : ℕ → Cluster → List Fact → Result (List Fact) BootFault
+booted_over total cluster facts = boot_by total cluster (fact_payloads facts)
 
 -- A centre that runs: its node has these facts and the new boot, and its log, which lies within the limit, has them too, all of it
--- durable; no checkpoint is due. Its store has as many cells spare as these facts leave.
-pub record Runs {S D : Type 0} (stands : S → List Fact → Type 0) (room : S → ℕ) (cells : Cells) (centre : Running S) (cluster : Cluster) (me every : ℕ) (facts : List Fact) (disk : D → ℕ → Disk) (may_leave : D → ℕ → List ℕ → Type 0) (old new : D) : Type 0 where
+-- durable; no checkpoint is due. Its store has so many cells, in which these facts left room for the boot.
+pub record Runs {S D : Type 0} (stands : S → List Fact → Type 0) (cells : S → ℕ) (total : ℕ) (centre : Running S) (cluster : Cluster) (me every : ℕ) (facts : List Fact) (disk : D → ℕ → Disk) (may_leave : D → ℕ → List ℕ → Type 0) (old new : D) : Type 0 where
   pub epoch : centre.epoch ≡ epoch_of facts + 1
   pub below : epoch_of facts < 2 ^ 32 - 1
   pub node : RepresentsCentre stands centre.node cluster me (next_boot facts ∷ facts) initial_volatile
-  pub spare : room centre.node.store + sum_over cells.needed (next_boot facts ∷ facts) ≡ cells.total
+  pub total_is : cells centre.node.store ≡ total
+  pub fits : cells_held facts + cells_needed (next_boot facts) ≤ total
   pub place : centre.log.centre ≡ me
   pub every_is : centre.log.every ≡ every
   pub few : centre.log.tail < every
@@ -63,17 +65,17 @@ pub record Runs {S D : Type 0} (stands : S → List Fact → Type 0) (room : S �
   pub roomy : HasLogRoom every (disk old me) (disk old (me + 16)) → IsRoomy centre.log.generation centre.log.tail centre.log.count
 
 -- Why no centre runs. A fault of the disk and want of memory may come at any time.
-abbrev pub IsRefused : Cells → Cluster → List Fact → Type 0 → StartFault → Type 0
-IsRefused cells cluster facts roomy (StartFault.Boot BootFault.Epochs) = 2 ^ 32 - 1 ≤ epoch_of facts
-IsRefused cells cluster facts roomy (StartFault.Boot (BootFault.Room needed all)) = booted_over cells cluster facts ≡ Err (BootFault.Room needed all)
-IsRefused cells cluster facts roomy (StartFault.Log LogFault.LogFull) = (booted_over cells cluster facts ≡ Ok (next_boot facts ∷ facts)) × (roomy → log_limit < size_with_boot facts)
-IsRefused cells cluster facts roomy (StartFault.Log LogFault.DiskFault) = ⊤
-IsRefused cells cluster facts roomy StartFault.Memory = ⊤
-IsRefused cells cluster facts roomy _ = ⊥
+abbrev pub IsRefused : ℕ → Cluster → List Fact → Type 0 → StartFault → Type 0
+IsRefused total cluster facts roomy (StartFault.Boot BootFault.Epochs) = 2 ^ 32 - 1 ≤ epoch_of facts
+IsRefused total cluster facts roomy (StartFault.Boot (BootFault.Room needed all)) = booted_over total cluster facts ≡ Err (BootFault.Room needed all)
+IsRefused total cluster facts roomy (StartFault.Log LogFault.LogFull) = (booted_over total cluster facts ≡ Ok (next_boot facts ∷ facts)) × (roomy → log_limit < size_with_boot facts)
+IsRefused total cluster facts roomy (StartFault.Log LogFault.DiskFault) = ⊤
+IsRefused total cluster facts roomy StartFault.Memory = ⊤
+IsRefused total cluster facts roomy _ = ⊥
 
-abbrev pub StartGives : {S D : Type 0} → (S → List Fact → Type 0) → (S → ℕ) → Cells → Result (Running S) StartFault → Cluster → ℕ → ℕ → List Fact → (D → ℕ → Disk) → (D → ℕ → List ℕ → Type 0) → D → D → Type 0
-StartGives stands room cells (Ok centre) cluster me every facts disk may_leave old new = Runs stands room cells centre cluster me every facts disk may_leave old new
-StartGives stands room cells (Err fault) cluster me every facts disk may_leave old new = IsRefused cells cluster facts (HasLogRoom every (disk old me) (disk old (me + 16))) fault
+abbrev pub StartGives : {S D : Type 0} → (S → List Fact → Type 0) → (S → ℕ) → ℕ → Result (Running S) StartFault → Cluster → ℕ → ℕ → List Fact → (D → ℕ → Disk) → (D → ℕ → List ℕ → Type 0) → D → D → Type 0
+StartGives stands cells total (Ok centre) cluster me every facts disk may_leave old new = Runs stands cells total centre cluster me every facts disk may_leave old new
+StartGives stands cells total (Err fault) cluster me every facts disk may_leave old new = IsRefused total cluster facts (HasLogRoom every (disk old me) (disk old (me + 16))) fault
 
 -- ---- what stands on its disks
 
@@ -112,11 +114,11 @@ IsUnread n _ me disk old new = ⊥
 -- ---- its boot
 
 -- a node of these facts and the new boot, with this boot, or the fault: the epochs are used up, cells lack, or there was no memory
-abbrev pub BootsNode : {S : Type 0} → (S → List Fact → Type 0) → (S → ℕ) → Cells → Result (Node S × Fact) StartFault → Cluster → ℕ → List Fact → Type 0
-BootsNode stands room cells (Ok r) cluster me facts =
+abbrev pub BootsNode : {S : Type 0} → (S → List Fact → Type 0) → (S → ℕ) → ℕ → Result (Node S × Fact) StartFault → Cluster → ℕ → List Fact → Type 0
+BootsNode stands cells total (Ok r) cluster me facts =
     (epoch_of facts < 2 ^ 32 - 1) × RepresentsCentre stands r.0 cluster me (next_boot facts ∷ facts) initial_volatile × (r.1 ≡ next_boot facts)
-    × (booted_over cells cluster facts ≡ Ok (next_boot facts ∷ facts)) × (room r.0.store + sum_over cells.needed (next_boot facts ∷ facts) ≡ cells.total)
-BootsNode stands room cells (Err (StartFault.Boot BootFault.Epochs)) cluster me facts = 2 ^ 32 - 1 ≤ epoch_of facts
-BootsNode stands room cells (Err (StartFault.Boot (BootFault.Room needed all))) cluster me facts = booted_over cells cluster facts ≡ Err (BootFault.Room needed all)
-BootsNode stands room cells (Err StartFault.Memory) cluster me facts = ⊤
-BootsNode stands room cells (Err fault) cluster me facts = ⊥
+    × (booted_over total cluster facts ≡ Ok (next_boot facts ∷ facts)) × (cells r.0.store ≡ total)
+BootsNode stands cells total (Err (StartFault.Boot BootFault.Epochs)) cluster me facts = 2 ^ 32 - 1 ≤ epoch_of facts
+BootsNode stands cells total (Err (StartFault.Boot (BootFault.Room needed all))) cluster me facts = booted_over total cluster facts ≡ Err (BootFault.Room needed all)
+BootsNode stands cells total (Err StartFault.Memory) cluster me facts = ⊤
+BootsNode stands cells total (Err fault) cluster me facts = ⊥

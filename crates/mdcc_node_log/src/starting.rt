@@ -1,7 +1,7 @@
 //! The start of a centre.
 ghost use Rattle.std.specs.List.{AllByRecursion};
 ghost use Rattle.std.specs.Prelude.{◌≡◌, ◌≤◌, ◌<◌, ◌+◌, ◌⊎◌, ◌∷◌, ◌++◌, [], List, Err, IfErr, IfOk, IsErrAnd, IsErrOf, IsTrue, OnOk, Ok, length, map, true, ℕ};
-ghost use Rattle.mdcc_node_boot.specs.Loading.{AreWithinFrames, Cells, HoldsFacts};
+ghost use Rattle.mdcc_node_boot.specs.Loading.{AreWithinFrames, HoldsFacts};
 ghost use Rattle.mdcc_log_file.specs.Area.{AreaLog, payloads, payloads_of, read_areas};
 ghost use Rattle.mdcc_log.specs.AtRest.{IsAtRest, MayBeDue};
 ghost use Rattle.mdcc_log_file.specs.Both.{KeepsBut, RoseAtOne};
@@ -68,10 +68,10 @@ fn boot_node<S: FactStore + Drop>(
     requires among { is_centre cluster centre ≡ true }
     requires empty { S.stands store [] }
     requires short { AreWithinFrames payloads.now }
-    ensures node { (cells : Cells) (facts : List AFact) → HoldsFacts S.stands S.room S.cells_for cells store [] → AreLogged cluster facts
-        → payloads.now ≡ encodings_of facts → BootsNode S.stands S.room cells result cluster centre facts }
-    ensures boots { (cells : Cells) → HoldsFacts S.stands S.room S.cells_for cells store []
-        → BootsFrom S.stands S.room S.cells_for cells cluster centre payloads.now result }
+    ensures node { (total : ℕ) (facts : List AFact) → HoldsFacts S.stands S.cells total store [] → AreLogged cluster facts
+        → payloads.now ≡ encodings_of facts → BootsNode S.stands S.cells total result cluster centre facts }
+    ensures boots { (total : ℕ) → HoldsFacts S.stands S.cells total store []
+        → BootsFrom S.stands S.cells total cluster centre payloads.now result }
     ensures bytes { AllByRecursion AreBytes payloads.now }
     ensures fact { IfOk result (λ r. IsBoot r.1) }
     ensures short { IfOk result (λ r. length (fact_bytes r.1) ≡ 5) }
@@ -164,29 +164,29 @@ pub fn start<D: Disks, S: FactStore + Drop>(
     // Over a log of facts that the centre may have added it has just these and the new boot. It is
     // refused where the epochs are used up, where the store has too few cells, with those that are needed,
     // and where the new boot would pass the limit of the log.
-    ensures starts { (cells : Cells) (facts : List AFact) → HoldsFacts S.stands S.room S.cells_for cells store [] → AreLogged cluster facts
+    ensures starts { (total : ℕ) (facts : List AFact) → HoldsFacts S.stands S.cells total store [] → AreLogged cluster facts
         → IsLogOnDisks facts (D.disk disks.old centre) (D.disk disks.old (centre + 16))
-        → StartGives S.stands S.room cells result cluster centre every facts D.disk D.may_leave disks.old disks.new }
+        → StartGives S.stands S.cells total result cluster centre every facts D.disk D.may_leave disks.old disks.new }
 
     // So too where a crash came at any moment of an append and of the checkpoint behind it: with the fact that was being added, or
     // without it.
-    ensures after_crash { (cells : Cells) (facts : List AFact) (fact : AFact) → HoldsFacts S.stands S.room S.cells_for cells store [] → AreLogged cluster (fact ∷ facts)
+    ensures after_crash { (total : ℕ) (facts : List AFact) (fact : AFact) → HoldsFacts S.stands S.cells total store [] → AreLogged cluster (fact ∷ facts)
         → IsTrue (D.disk disks.old centre).told → IsTrue (D.disk disks.old (centre + 16)).told
         → ReadsAsEither (encodings_of facts) (fact_bytes fact) (payloads (D.disk disks.old centre).bytes (D.disk disks.old (centre + 16)).bytes)
-        → StartGives S.stands S.room cells result cluster centre every facts D.disk D.may_leave disks.old disks.new
-        ⊎ StartGives S.stands S.room cells result cluster centre every (fact ∷ facts) D.disk D.may_leave disks.old disks.new }
+        → StartGives S.stands S.cells total result cluster centre every facts D.disk D.may_leave disks.old disks.new
+        ⊎ StartGives S.stands S.cells total result cluster centre every (fact ∷ facts) D.disk D.may_leave disks.old disks.new }
 
     // And where it came at any moment of an append of several facts, the oldest first: with all of them, or without them.
-    ensures after_group { (cells : Cells) (facts more : List AFact) → HoldsFacts S.stands S.room S.cells_for cells store [] → AreLogged cluster (with_facts facts more)
+    ensures after_group { (total : ℕ) (facts more : List AFact) → HoldsFacts S.stands S.cells total store [] → AreLogged cluster (with_facts facts more)
         → IsTrue (D.disk disks.old centre).told → IsTrue (D.disk disks.old (centre + 16)).told
         → ReadsAsAllOrNone (encodings_of facts) (map fact_bytes more) (payloads (D.disk disks.old centre).bytes (D.disk disks.old (centre + 16)).bytes)
-        → StartGives S.stands S.room cells result cluster centre every facts D.disk D.may_leave disks.old disks.new
-        ⊎ StartGives S.stands S.room cells result cluster centre every (with_facts facts more) D.disk D.may_leave disks.old disks.new }
+        → StartGives S.stands S.cells total result cluster centre every facts D.disk D.may_leave disks.old disks.new
+        ⊎ StartGives S.stands S.cells total result cluster centre every (with_facts facts more) D.disk D.may_leave disks.old disks.new }
 
     // Whatever its payloads are, at `Ok` a node has booted from those that were read, and the log has its boot behind them; where the
     // boot is refused they give no node, and where the log is full it has no room for the boot.
-    ensures over_any { (cells : Cells) → HoldsFacts S.stands S.room S.cells_for cells store []
-        → StartsOrEnds D.disk D.may_leave centre every disks.old disks.new S.stands S.room S.cells_for cells cluster result }
+    ensures over_any { (total : ℕ) → HoldsFacts S.stands S.cells total store []
+        → StartsOrEnds D.disk D.may_leave centre every disks.old disks.new S.stands S.cells total cluster result }
 
     // At `Ok` the log is open, and no checkpoint is due.
     ensures at_rest { IsTrue (D.disk disks.old centre).told → IsTrue (D.disk disks.old (centre + 16)).told
@@ -214,11 +214,11 @@ pub fn start<D: Disks, S: FactStore + Drop>(
     // A crash at any moment of it leaves a log of the facts, or of these and the new boot, whether it is answered or refused, with each
     // area as at a moment of its own: where the other area is dead or older; and, of whatever areas these facts are read, where no
     // byte is torn to 1.
-    ensures any_moment { (cells : Cells) (facts : List AFact) (area : ℕ) (log : AreaLog) → HoldsFacts S.stands S.room S.cells_for cells store [] → AreLogged cluster facts
+    ensures any_moment { (total : ℕ) (facts : List AFact) (area : ℕ) (log : AreaLog) → HoldsFacts S.stands S.cells total store [] → AreLogged cluster facts
         → IsTrue (D.disk disks.old centre).told → IsTrue (D.disk disks.old (centre + 16)).told
         → IsLeft (D.may_leave disks.old) centre area log → payloads_of log ≡ encodings_of facts
         → LeavesStruck D.moment D.left_since disks.old disks.new centre area log (fact_bytes (next_boot facts)) }
-    ensures any_moment_same { (cells : Cells) (facts : List AFact) (current other : List ℕ) → HoldsFacts S.stands S.room S.cells_for cells store [] → AreLogged cluster facts
+    ensures any_moment_same { (total : ℕ) (facts : List AFact) (current other : List ℕ) → HoldsFacts S.stands S.cells total store [] → AreLogged cluster facts
         → IsLogOnDisks facts (D.disk disks.old centre) (D.disk disks.old (centre + 16)) → (D.tears 1 → ⊥)
         → Only (D.disk disks.old centre).bytes (D.may_leave disks.old centre)
         → Only (D.disk disks.old (centre + 16)).bytes (D.may_leave disks.old (centre + 16))
@@ -237,7 +237,7 @@ pub fn start<D: Disks, S: FactStore + Drop>(
     // So it is after a crash at any moment of an append and of the checkpoint behind it, with both areas struck at one moment: it
     // leaves what that crash did, or from some moment on a log of the facts, with the fact that was being added or without, and then the
     // new boot or not.
-    ensures any_moment_between { (cells : Cells) (facts : List AFact) (fact : AFact) (area : ℕ) (log : AreaLog) → HoldsFacts S.stands S.room S.cells_for cells store [] → AreLogged cluster (fact ∷ facts)
+    ensures any_moment_between { (total : ℕ) (facts : List AFact) (fact : AFact) (area : ℕ) (log : AreaLog) → HoldsFacts S.stands S.cells total store [] → AreLogged cluster (fact ∷ facts)
         → IsTrue (D.disk disks.old centre).told → IsTrue (D.disk disks.old (centre + 16)).told
         → IsStruck (D.may_leave disks.old) centre area log (fact_bytes fact) → payloads_of log ≡ encodings_of facts
         → LeavesFactAndBoot D.moment D.left_since disks.old disks.new centre area log facts fact }
