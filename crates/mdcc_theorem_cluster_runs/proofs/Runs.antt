@@ -1,5 +1,5 @@
 -- What a run that serves centres did is what its server did.
-use Rattle.std.proofs.Common.{Bool, Err, List, Ok, Option, Result, Some, ap, false, inl, inr, subst, sym, true, ℕ, ◌∙◌, ◌≡◌}
+use Rattle.std.proofs.Common.{Bool, Err, List, Ok, Option, Result, Some, false, inl, inr, subst, sym, true, ℕ, ◌∙◌, ◌≡◌}
 use Rattle.std.specs.Prelude.{IfSome, MatchBool}
 use Rattle.mdcc_command_endings.specs.Readings.{GivesConfig, IsConfigRead}
 use Rattle.mdcc_command_endings.specs.declared.fault.Failure.{Failure}
@@ -13,9 +13,9 @@ use Rattle.mdcc_serve.specs.declared.served.Served.{Served}
 use Rattle.mdcc_theorem_cluster_nodes.specs.Calls.{Setting}
 use Rattle.mdcc_theorem_cluster_runs.specs.Runs.{RunServesCentre, RunServesCentres}
 
-of-true : (b : Bool) (yes no-one : Type 0) → b ≡ true → MatchBool b yes no-one → yes
-of-true true yes no-one e it = it
-of-true false yes no-one e it = absurd (cc)
+of-true : (b : Bool) (Then Else : Type 0) → b ≡ true → MatchBool b Then Else → Then
+of-true true Then Else e it = it
+of-true false Then Else e it = absurd (cc)
 
 same-config : (read : Result Config ConfigFault) (one other : Config) → read ≡ Ok one → read ≡ Ok other → one ≡ other
 same-config (Err fault) one other e f = absurd (cc)

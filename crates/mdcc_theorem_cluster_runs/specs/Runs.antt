@@ -1,6 +1,6 @@
 -- What the contract of the top call says of a run that serves centres, in the words of the headline for clusters.
 use Rattle.std.specs.List.{range_with_len}
-use Rattle.std.specs.Prelude.{List, Result, map, ℕ, ◌≡◌, ◌⊎◌}
+use Rattle.std.specs.Prelude.{List, Option, Result, map, ℕ, ◌≡◌, ◌⊎◌}
 use Rattle.mdcc_command_serve.specs.Commands.{UntouchedOutside}
 use Rattle.mdcc_config.specs.declared.config.Config.{Config}
 use Rattle.mdcc_def_server_runs.specs.Servers.{Log}
