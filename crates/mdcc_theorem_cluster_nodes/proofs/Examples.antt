@@ -10,10 +10,10 @@ use Rattle.mdcc_def_messages.specs.declared.facts.Fact.{Fact}
 use Rattle.mdcc_def_server_runs.specs.Acts.{Act, but_answer, but_answers, dropped_in, lost_in, steps_in}
 use Rattle.mdcc_def_server_runs.specs.Servers.{site_of}
 use Rattle.mdcc_def_server_runs.specs.Turns.{Given, turn_of}
-use Rattle.mdcc_killed.specs.Killed.{calls_of_killed, disk_of_killed, held_of_killed, lost_of_killed, may_leave_of_killed}
-use Rattle.mdcc_killed.specs.declared.disks.KilledDisks.{KilledDisks}
-use Rattle.mdcc_killed.specs.declared.link.KilledLink.{KilledLink}
-use Rattle.mdcc_killed.specs.declared.output.KilledOutput.{KilledOutput}
+use Rattle.mdcc_killed_process.specs.Killed.{calls_of_killed, disk_of_killed, held_of_killed, lost_of_killed, may_leave_of_killed}
+use Rattle.mdcc_killed_process.specs.declared.disks.KilledDisks.{KilledDisks}
+use Rattle.mdcc_killed_process.specs.declared.link.KilledLink.{KilledLink}
+use Rattle.mdcc_killed_process.specs.declared.output.KilledOutput.{KilledOutput}
 use Rattle.mdcc_log_file.specs.Area.{payloads}
 use Rattle.mdcc_log_file.specs.Area.Head.{Version1}
 use Rattle.mdcc_serve.specs.Stages.{done_line}

@@ -1,7 +1,7 @@
 use Rattle.std.proofs.Common.{length}
 use Rattle.mdcc_disks.specs.Disks.DiskCall.{Read}
-use Rattle.mdcc_killed.proofs.Missed.{not_made}
-use Rattle.mdcc_killed.proofs.disks.KilledDisksDisks.read.Goals as goal
+use Rattle.mdcc_killed_process.proofs.Missed.{not_made}
+use Rattle.mdcc_killed_process.proofs.disks.KilledDisksDisks.read.Goals as goal
 
 pub returns-then-not-reaches-clause-call : goal.returns-then-not-reaches-clause-call
 returns-then-not-reaches-clause-call g c =

@@ -1,6 +1,6 @@
 use Rattle.mdcc_disks.specs.Disks.DiskCall.{Sync}
-use Rattle.mdcc_killed.proofs.Missed.{not_made}
-use Rattle.mdcc_killed.proofs.disks.KilledDisksDisks.sync.Goals as goal
+use Rattle.mdcc_killed_process.proofs.Missed.{not_made}
+use Rattle.mdcc_killed_process.proofs.disks.KilledDisksDisks.sync.Goals as goal
 
 pub returns-then-not-reaches-clause-call : goal.returns-then-not-reaches-clause-call
 returns-then-not-reaches-clause-call g c =

@@ -1,6 +1,6 @@
 -- By the clauses of the run.
-use Rattle.mdcc_theorem_cluster_runs.proofs.Runs.{cluster-run, node-run}
-use Rattle.mdcc_theorem_cluster_runs.proofs.run_as_call.Goals as goal
+use Rattle.mdcc_theorem_program_runs.proofs.Runs.{cluster-run, node-run}
+use Rattle.mdcc_theorem_program_runs.proofs.run_as_call.Goals as goal
 
 pub returns-clause-node : goal.returns-clause-node
 returns-clause-node g c = λ centre turns input config words left read there.

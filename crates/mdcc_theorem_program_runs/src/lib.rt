@@ -9,7 +9,7 @@ ghost use Rattle.mdcc_command_words.specs.Commands.{command_of};
 ghost use Rattle.mdcc_command_words.specs.declared.words.Command.{Command};
 ghost use Rattle.mdcc_config.specs.declared.config.Config.{Config};
 ghost use Rattle.mdcc_def_protocol.specs.Belongs.{is_centre};
-ghost use Rattle.mdcc_theorem_cluster_runs.specs.Runs.{RunServesCentre, RunServesCentres};
+ghost use Rattle.mdcc_theorem_program_runs.specs.Runs.{RunServesCentre, RunServesCentres};
 
 use mdcc_base::{Sink, Source};
 use mdcc_command::run;

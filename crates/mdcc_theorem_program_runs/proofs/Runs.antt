@@ -11,7 +11,7 @@ use Rattle.mdcc_disks.specs.Disks.{Disk}
 use Rattle.mdcc_link.specs.Link.{LinkCall}
 use Rattle.mdcc_serve.specs.declared.served.Served.{Served}
 use Rattle.mdcc_theorem_cluster_nodes.specs.Calls.{Setting}
-use Rattle.mdcc_theorem_cluster_runs.specs.Runs.{RunServesCentre, RunServesCentres}
+use Rattle.mdcc_theorem_program_runs.specs.Runs.{RunServesCentre, RunServesCentres}
 
 of-true : (b : Bool) (Then Else : Type 0) → b ≡ true → MatchBool b Then Else → Then
 of-true true Then Else e it = it

@@ -1,6 +1,6 @@
 //! A link that a killed process does not reach any more.
 ghost use Rattle.std.specs.Prelude.{◌≡◌, ◌+◌};
-ghost use Rattle.mdcc_killed.specs.Killed.{calls_of_killed, lost_of_killed};
+ghost use Rattle.mdcc_killed_process.specs.Killed.{calls_of_killed, lost_of_killed};
 
 use mdcc_base::{Address, Failed};
 use mdcc_link::{Link, Received};

@@ -1,6 +1,6 @@
 //! Disks that a killed process does not reach any more.
 ghost use Rattle.std.specs.Prelude.{◌≡◌, true, false, replicate};
-ghost use Rattle.mdcc_killed.specs.Killed.{IsMissedAt, disk_of_killed, may_leave_of_killed};
+ghost use Rattle.mdcc_killed_process.specs.Killed.{IsMissedAt, disk_of_killed, may_leave_of_killed};
 
 use mdcc_base::Failed;
 use mdcc_disks::Disks;

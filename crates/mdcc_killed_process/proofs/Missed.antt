@@ -5,8 +5,8 @@ use Rattle.mdcc_base.specs.Causes.{Rose}
 use Rattle.mdcc_base.specs.Scripts.{one_more}
 use Rattle.mdcc_base.specs.declared.faults.Failed.{Failed}
 use Rattle.mdcc_disks.specs.Disks.{Disk, DiskCall, IsCall}
-use Rattle.mdcc_killed.specs.Killed.{IsMissedAt, calls_told, disk_of_killed, may_leave_of_killed}
-use Rattle.mdcc_killed.specs.declared.disks.KilledDisks.{KilledDisks}
+use Rattle.mdcc_killed_process.specs.Killed.{IsMissedAt, calls_told, disk_of_killed, may_leave_of_killed}
+use Rattle.mdcc_killed_process.specs.declared.disks.KilledDisks.{KilledDisks}
 
 some_missed : {C : Type 0} (missed : ℕ) (calls : Option C) → 1 ≤ missed → calls_told missed calls ≡ None
 some_missed zero calls some = absurd (omega (some, arith))

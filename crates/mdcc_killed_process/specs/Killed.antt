@@ -2,9 +2,9 @@
 use Rattle.std.specs.Prelude.{List, None, Option, get_or, suc, zero, ℕ, ◌+◌, ◌≡◌, ◌≢◌, ◌≤◌}
 use Rattle.mdcc_base.specs.Scripts.{one_more}
 use Rattle.mdcc_disks.specs.Disks.{Disk}
-use Rattle.mdcc_killed.specs.declared.disks.KilledDisks.{KilledDisks}
-use Rattle.mdcc_killed.specs.declared.link.KilledLink.{KilledLink}
-use Rattle.mdcc_killed.specs.declared.output.KilledOutput.{KilledOutput}
+use Rattle.mdcc_killed_process.specs.declared.disks.KilledDisks.{KilledDisks}
+use Rattle.mdcc_killed_process.specs.declared.link.KilledLink.{KilledLink}
+use Rattle.mdcc_killed_process.specs.declared.output.KilledOutput.{KilledOutput}
 use Rattle.mdcc_link.specs.Link.{LinkCall}
 
 -- ---- calls that were not made

@@ -1,6 +1,6 @@
 //! An output that a killed process does not reach any more.
 ghost use Rattle.std.specs.Prelude.{◌≡◌, ◌+◌};
-ghost use Rattle.mdcc_killed.specs.Killed.{held_of_killed};
+ghost use Rattle.mdcc_killed_process.specs.Killed.{held_of_killed};
 
 use mdcc_base::{Failed, Sink};
 
