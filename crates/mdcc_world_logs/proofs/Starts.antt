@@ -3,8 +3,7 @@ use Rattle.std.proofs.Common.{◌≡◌, ◌≢◌, ◌+◌, ◌-◌, ◌≤◌,
 use Rattle.std.specs.List.{AllByRecursion}
 use Rattle.std.proofs.lemmas.Bool.{false≢true, le-ltb, lt-leb, ltb-false, ltb-true}
 use Rattle.std.proofs.lemmas.Bool.Decides.{nat_tests}
-use Rattle.mdcc_node_boot.proofs.Alike.{counted_boots}
-use Rattle.mdcc_node_boot.specs.Loading.{HoldsFacts}
+use Rattle.mdcc_node_boot.proofs.Alike.{boots_alike}
 use Rattle.mdcc_disks.specs.Contents.{tears_of}
 use Rattle.mdcc_log.specs.AtRest.{IsAtRest}
 use Rattle.mdcc_log_file.specs.Area.{AreaLog, payloads, read_areas}
@@ -23,15 +22,15 @@ use Rattle.mdcc_world_logs.proofs.Calls.{stays-durable}
 use Rattle.mdcc_world_logs.proofs.Refusals.{its-payloads, leaves-here, one}
 use Rattle.mdcc_world_logs.proofs.Standing.{IsSame, both-same, cond-here, cond-there, elsewhere, log-here, log-same, logs-with, others-same, put}
 use Rattle.mdcc_world_logs.proofs.Tails.{has-tail, tail-open, tail-read}
-use Rattle.mdcc_node_log.specs.Nodes.{CentreStore, IsNodeOf, are_stored, cells_of, needed_in, spare_cells_of}
+use Rattle.mdcc_node_log.specs.Nodes.{CentreStore, IsNodeOf, are_stored, store_cells}
 use Rattle.mdcc_world_logs.specs.Represents.{IsLogOf, LogsRepresent, MayHave, log_at, with_up}
 use Rattle.mdcc_world_logs.specs.Starting.{HasStarted, OnNone, RunsWithTail, StartsOver, cells_with_boot, lacking}
 use Rattle.mdcc_world_logs.specs.Tails.{HasTail, tail_at}
 use Rattle.mdcc_world_logs.specs.declared.logs.Logs.{Logs}
 use Rattle.mdcc_option.specs.declared.cluster.Cluster.{Cluster}
-use Rattle.mdcc_def_messages.specs.Lengths.{cells_needed, cells_used, log_length}
-use Rattle.mdcc_def_protocol.specs.Facts.{epoch_of, has_floor}
-use Rattle.mdcc_def_protocol.proofs.Plain.{cells_plain}
+use Rattle.mdcc_def_messages.specs.Lengths.{cells_needed, log_length}
+use Rattle.mdcc_def_protocol.specs.Cells.{cells_held}
+use Rattle.mdcc_def_protocol.specs.Facts.{epoch_of}
 use Rattle.mdcc_def_protocol.specs.Volatile.{initial_volatile}
 use Rattle.mdcc_def_messages.specs.Spelling.{fact_bytes, encodings_of}
 use Rattle.mdcc_def_messages.specs.declared.facts.Fact.{Fact}
@@ -43,43 +42,31 @@ use Rattle.mdcc_def_rules.specs.Boot.{booted_by, next_boot}
 use Rattle.mdcc_def_rules.specs.declared.node.BootFault.{BootFault}
 use Rattle.mdcc_theorem_node_steps.proofs.Booting.{boot-reads}
 use Rattle.mdcc_theorem_node_steps.proofs.Each.{each-append}
-use Rattle.mdcc_theorem_node_steps.proofs.Unfloored.{allowed-unfloored, fit-plain}
-use Rattle.mdcc_theorem_node_steps.specs.NodeInvariant.{fact_payloads}
+use Rattle.mdcc_theorem_node_steps.specs.NodeInvariant.{FitInTurn, fact_payloads}
 use Rattle.mdcc_def_simulation.specs.Checkpoints.{checkpoint_every, tail_after_append}
 
 -- ---- the cells of a centre
 
--- an empty store has all of them
-pub empty-store : (store : CentreStore) (cluster : Cluster) → are_stored store [] → spare_cells_of store ≡ cluster.cells → HoldsFacts are_stored spare_cells_of needed_in (cells_of cluster) store []
-empty-store store cluster empty spare = record { list = empty; spare = omega (spare, arith); needs = λ s fact. refl; counted = refl }
-
--- no fact in them needs more than there are
-each-few : (facts : List Fact) (all : ℕ) → cells_used facts ≤ all → all < 2 ^ 63 → AllByRecursion (λ payload. (fact : Fact) → payload ≡ Some fact → cells_needed fact < 2 ^ 63) (fact_payloads facts)
-each-few [] all h few = tt
-each-few (fact ∷ facts) all h few =
+-- no fact that had room in them needs more than there are
+each-few : (cluster : Cluster) (facts : List Fact) → FitInTurn cluster facts → cluster.cells < 2 ^ 63
+    → AllByRecursion (λ payload. (fact : Fact) → payload ≡ Some fact → cells_needed fact < 2 ^ 63) (fact_payloads facts)
+each-few cluster [] fits few = tt
+each-few cluster (fact ∷ facts) fits few =
     each-append (λ (payload : Option Fact). (other : Fact) → payload ≡ Some other → cells_needed other < 2 ^ 63) (fact_payloads facts) (Some fact ∷ [])
-    (each-few facts all (rest (cells_needed fact) (cells_used facts) all h) few)
-    (λ other e. let same : fact ≡ other = cc in subst (λ (f : Fact). cells_needed f < 2 ^ 63) same (first (cells_needed fact) (cells_used facts) all h few), tt)
+    (each-few cluster facts fits.0 few)
+    (λ other e. let same : fact ≡ other = cc in subst (λ (f : Fact). cells_needed f < 2 ^ 63) same (last (cells_held facts) (cells_needed fact) cluster.cells fits.1 few), tt)
   where
-    rest : (a b c : ℕ) → a + b ≤ c → b ≤ c
-    rest a b c h = omega (h, arith)
+    last : (a b c : ℕ) → a + b ≤ c → c < 2 ^ 63 → b < 2 ^ 63
+    last a b c h few = omega (h, few, arith)
 
-    first : (a b c : ℕ) → a + b ≤ c → c < 2 ^ 63 → a < 2 ^ 63
-    first a b c h few = omega (h, few, arith)
-
-module _ (cluster : Cluster) (facts : List Fact) (are : AreLogged cluster facts) (few : cluster.cells < 2 ^ 63) (fits : cells_used facts ≤ cluster.cells) (early : epoch_of facts < 2 ^ 32 - 1) where
-  unfloored : has_floor facts ≡ false
-  unfloored = allowed-unfloored cluster facts are.allowed
-
+module _ (cluster : Cluster) (facts : List Fact) (are : AreLogged cluster facts) (few : cluster.cells < 2 ^ 63) (fits : FitInTurn cluster facts) (early : epoch_of facts < 2 ^ 32 - 1) where
   -- a boot over them is the definition's
-  over-cells : booted_over (cells_of cluster) cluster facts ≡ booted_by cluster (Ok facts)
-  over-cells =
-      counted_boots (cells_of cluster) cluster (fact_payloads facts) refl (λ fact. refl) few (each-few facts cluster.cells fits few)
-      ∙ boot-reads cluster facts are.allowed (fit-plain cluster facts unfloored fits)
+  over-cells : booted_over cluster.cells cluster facts ≡ booted_by cluster (Ok facts)
+  over-cells = boots_alike cluster (fact_payloads facts) few (each-few cluster facts fits few) ∙ boot-reads cluster facts are.allowed fits
 
-  boot-over : booted_over (cells_of cluster) cluster facts
+  boot-over : booted_over cluster.cells cluster facts
       ≡ (if nat_lt cluster.cells (cells_with_boot facts) then Err (BootFault.Room (cells_with_boot facts) cluster.cells) else Ok (next_boot facts ∷ facts))
-  boot-over = let left : nat_le (2 ^ 32 - 1) (epoch_of facts) ≡ false = lt-leb (2 ^ 32 - 1) (epoch_of facts) early in over-cells ∙ rw (left, cells_plain facts unfloored) refl
+  boot-over = let left : nat_le (2 ^ 32 - 1) (epoch_of facts) ≡ false = lt-leb (2 ^ 32 - 1) (epoch_of facts) early in over-cells ∙ rw left refl
 
   fits-by : (past : Bool) → (past ≡ false → cells_with_boot facts ≤ cluster.cells) → (all : List Fact)
       → (if past then Err (BootFault.Room (cells_with_boot facts) cluster.cells) else Ok (next_boot facts ∷ facts)) ≡ Ok all → cells_with_boot facts ≤ cluster.cells
@@ -93,7 +80,7 @@ module _ (cluster : Cluster) (facts : List Fact) (are : AreLogged cluster facts)
   lacks-by false past needed all e = absurd (cc)
 
   -- what comes of a start that is refused
-  pub lacking-over : (me : ℕ) (old new : AllMemory) (roomy : Type 0) (fault : StartFault) → roomy → IsRefused (cells_of cluster) cluster facts roomy fault → StartsOver (lacking fault) cluster me facts old new
+  pub lacking-over : (me : ℕ) (old new : AllMemory) (roomy : Type 0) (fault : StartFault) → roomy → IsRefused cluster.cells cluster facts roomy fault → StartsOver (lacking fault) cluster me facts old new
   lacking-over me old new roomy (StartFault.Log LogFault.LogFull) room h =
       (fits-by (nat_lt cluster.cells (cells_with_boot facts)) (ltb-false cluster.cells (cells_with_boot facts)) (next_boot facts ∷ facts) (sym boot-over ∙ h.0), h.1 room)
   lacking-over me old new roomy (StartFault.Log LogFault.DiskFault) room h = tt
@@ -182,14 +169,14 @@ module _ (old new : Logs) (a centres : ℕ) (up : ℕ → Bool) (facts : ℕ →
   -- ---- a centre has started again
 
   pub restarted : (before : AllMemory) (centre : Running CentreStore) (cluster : Cluster) → new.open.items ≡ set old.open.items (a - 1) centre.log
-      → HasLogRoom checkpoint_every (disk_of before a) (disk_of before (a + 16))
-      → Runs are_stored spare_cells_of (cells_of cluster) centre cluster a checkpoint_every (facts a) disk_of may_leave_of before new.disks
+      → HasLogRoom checkpoint_every (disk_of before a) (disk_of before (a + 16)) → FitInTurn cluster (facts a)
+      → Runs are_stored store_cells cluster.cells centre cluster a checkpoint_every (facts a) disk_of may_leave_of before new.disks
       → HasStarted centre.node centre.epoch new cluster centres (with_up up a true) a facts
-  restarted before centre cluster items roomy runs =
+  restarted before centre cluster items roomy fits runs =
       let next : next_boot (facts a) ≡ Fact.Booted centre.epoch = ap (λ (n : ℕ). Fact.Booted n) (sym runs.epoch) in
       record {
         next = runs.epoch;
-        node_of = subst (λ (fact : Fact). IsNodeOf centre.node cluster a (fact ∷ facts a) initial_volatile) next (record { itself = runs.node; spare = runs.spare });
+        node_of = subst (λ (fact : Fact). IsNodeOf centre.node cluster a (fact ∷ facts a) initial_volatile) next (record { itself = runs.node; cells = runs.total_is; fits = (fits, runs.fits) });
         stand = put old new a centre.log (Fact.Booted centre.epoch) centres up (with_up up a true) facts stand some few items
             (others-same old.disks new.disks a its.range beside)
             (λ b other. cond-there a b true (up b) other)

@@ -4,7 +4,7 @@ use Rattle.mdcc_base.specs.declared.faults.Memory.{Memory}
 use Rattle.mdcc_log_file.specs.declared.fault.LogFault.{LogFault}
 use Rattle.mdcc_disks.specs.Memory.{AllMemory, disk_of, is_there, may_leave_of}
 use Rattle.mdcc_log_file.specs.Log.{log_limit}
-use Rattle.mdcc_node_log.specs.Nodes.{CentreStore, IsNodeOf, are_stored, cells_of, spare_cells_of}
+use Rattle.mdcc_node_log.specs.Nodes.{CentreStore, IsNodeOf, are_stored, store_cells}
 use Rattle.mdcc_world_logs.specs.Represents.{LogsRepresent, with_fact_at}
 use Rattle.mdcc_world_logs.specs.Tails.{tail_at}
 use Rattle.mdcc_world_logs.specs.declared.logs.Logs.{Logs}
@@ -12,8 +12,9 @@ use Rattle.mdcc_world_logs.specs.declared.starting.Attempt.{Attempt}
 use Rattle.mdcc_world_logs.specs.declared.starting.Started.{Started}
 use Rattle.mdcc_node.specs.declared.node.Node.{Node}
 use Rattle.mdcc_option.specs.declared.cluster.Cluster.{Cluster}
+use Rattle.mdcc_def_protocol.specs.Cells.{cells_held}
 use Rattle.mdcc_def_protocol.specs.Facts.{epoch_of}
-use Rattle.mdcc_def_messages.specs.Lengths.{cells_needed, cells_used, log_length}
+use Rattle.mdcc_def_messages.specs.Lengths.{cells_needed, log_length}
 use Rattle.mdcc_def_protocol.specs.Volatile.{initial_volatile}
 use Rattle.mdcc_def_messages.specs.declared.facts.Fact.{Fact}
 use Rattle.mdcc_node_log.specs.Starting.{IsAsBefore, Runs, size_with_boot}
@@ -24,9 +25,9 @@ use Rattle.mdcc_def_simulation.specs.Checkpoints.{checkpoint_every, tail_after_a
 
 -- ---- over the disk of a centre
 
--- how many cells the facts need with the next boot
+-- how many cells are needed for the next boot, with those that the facts hold
 abbrev pub cells_with_boot : List Fact → ℕ
-cells_with_boot facts = cells_used facts + cells_needed (next_boot facts)
+cells_with_boot facts = cells_held facts + cells_needed (next_boot facts)
 
 -- what comes of a start that is refused
 abbrev pub lacking : StartFault → Result Attempt Memory
@@ -36,7 +37,7 @@ lacking _ = Err (record {})
 
 -- a centre that runs; or none, where the new boot would pass the limit of its log or the cells of its node; or there was no memory
 abbrev pub StartsOver : Result Attempt Memory → Cluster → ℕ → List Fact → AllMemory → AllMemory → Type 0
-StartsOver (Ok (Attempt.Runs centre)) cluster me facts old new = Runs are_stored spare_cells_of (cells_of cluster) centre cluster me checkpoint_every facts disk_of may_leave_of old new
+StartsOver (Ok (Attempt.Runs centre)) cluster me facts old new = Runs are_stored store_cells cluster.cells centre cluster me checkpoint_every facts disk_of may_leave_of old new
 StartsOver (Ok Attempt.Full) cluster me facts old new = (cells_with_boot facts ≤ cluster.cells) × (log_limit < size_with_boot facts)
 StartsOver (Ok (Attempt.NoRoom needed)) cluster me facts old new = (cluster.cells < cells_with_boot facts) × (needed ≡ cells_with_boot facts)
 StartsOver (Err fault) cluster me facts old new = ⊤

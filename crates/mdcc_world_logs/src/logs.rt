@@ -12,7 +12,8 @@ ghost use Rattle.mdcc_world_logs.specs.Represents.{IsOpenAt, LogsRepresent, MayH
 ghost use Rattle.mdcc_world_logs.specs.Starting.{OnLack, Starts};
 ghost use Rattle.mdcc_def_protocol.specs.Belongs.{is_centre};
 ghost use Rattle.mdcc_def_protocol.specs.Facts.{epoch_of};
-ghost use Rattle.mdcc_def_messages.specs.Lengths.{cells_used, fact_length, log_length};
+ghost use Rattle.mdcc_theorem_node_steps.specs.NodeInvariant.{FitInTurn};
+ghost use Rattle.mdcc_def_messages.specs.Lengths.{fact_length, log_length};
 ghost use Rattle.mdcc_def_messages.specs.Spelling.{fact_bytes};
 ghost use Rattle.mdcc_def_messages.specs.WellFormed.{IsWellFormedFact};
 ghost use Rattle.mdcc_def_messages.specs.declared.facts.Fact.{Fact as AFact};
@@ -158,10 +159,10 @@ impl Logs {
         requires within { centre ≤ length self.old.open.items }
         ensures as_many { length self.new.open.items ≡ length self.old.open.items }
         ensures started { (centres : ℕ) (up : ℕ → Bool) (facts : ℕ → List AFact) → LogsRepresent self.old centres up facts
-            → AreLogged cluster.now (facts centre) → cells_used (facts centre) ≤ cluster.now.cells → epoch_of (facts centre) < 2 ^ 32 - 1
+            → AreLogged cluster.now (facts centre) → FitInTurn cluster.now (facts centre) → epoch_of (facts centre) < 2 ^ 32 - 1
             → Starts result self.new cluster.now centres (with_up up centre true) centre facts }
         ensures tail { (centres : ℕ) (up : ℕ → Bool) (facts : ℕ → List AFact) → LogsRepresent self.old centres up facts
-            → AreLogged cluster.now (facts centre) → cells_used (facts centre) ≤ cluster.now.cells → epoch_of (facts centre) < 2 ^ 32 - 1
+            → AreLogged cluster.now (facts centre) → FitInTurn cluster.now (facts centre) → epoch_of (facts centre) < 2 ^ 32 - 1
             → StartsWithTail result self.old self.new centre }
         ensures lack { (centres : ℕ) (up : ℕ → Bool) (facts : ℕ → List AFact) → LogsRepresent self.old centres up facts → up centre ≡ false
             → OnLack result (LogsRepresent self.new centres up facts) }

@@ -1,5 +1,5 @@
 //! The start of one centre.
-ghost use Rattle.std.specs.Prelude.{◌≡◌, ◌<◌, ◌≤◌, ◌-◌, ◌+◌, ◌^◌, IsTrue, List, Ok, length, true, ℕ};
+ghost use Rattle.std.specs.Prelude.{◌≡◌, ◌<◌, ◌-◌, ◌+◌, ◌^◌, IsTrue, List, Ok, length, true, ℕ};
 ghost use Rattle.mdcc_log_file.specs.Area.{AreaLog, payloads, read_areas};
 ghost use Rattle.mdcc_log_file.specs.Both.{KeepsBut};
 ghost use Rattle.mdcc_log.specs.Crash.{ReadsAsEither};
@@ -8,12 +8,12 @@ ghost use Rattle.mdcc_disks.specs.Memory.{disk_of, may_leave_of, moment_of, left
 ghost use Rattle.mdcc_world_logs.specs.Starting.{OnNone, RunsWithTail, StartsOver, lacking};
 ghost use Rattle.mdcc_def_protocol.specs.Belongs.{is_centre};
 ghost use Rattle.mdcc_def_protocol.specs.Facts.{epoch_of};
-ghost use Rattle.mdcc_def_messages.specs.Lengths.{cells_used};
 ghost use Rattle.mdcc_def_messages.specs.Spelling.{fact_bytes, encodings_of};
 ghost use Rattle.mdcc_def_messages.specs.declared.facts.Fact.{Fact as AFact};
 ghost use Rattle.mdcc_node_log.specs.Logged.{AreLogged};
 ghost use Rattle.mdcc_node_log.specs.Starting.{HasLogRoom, IsLogOnDisks};
 ghost use Rattle.mdcc_def_rules.specs.Boot.{next_boot};
+ghost use Rattle.mdcc_theorem_node_steps.specs.NodeInvariant.{FitInTurn};
 ghost use Rattle.mdcc_def_simulation.specs.Checkpoints.{checkpoint_every};
 
 use mdcc_base::{Centre, Memory, Plain};
@@ -72,7 +72,7 @@ pub(crate) fn start(
     disks: &mut MemoryDisks,
 ) -> Result<Attempt, Memory>
     requires { is_centre cluster.now centre ≡ true }
-    ensures starts { (facts : List AFact) → AreLogged cluster.now facts → cells_used facts ≤ cluster.now.cells
+    ensures starts { (facts : List AFact) → AreLogged cluster.now facts → FitInTurn cluster.now facts
         → IsLogOnDisks facts (disk_of disks.old centre) (disk_of disks.old (centre + 16))
         → HasLogRoom checkpoint_every (disk_of disks.old centre) (disk_of disks.old (centre + 16)) → epoch_of facts < 2 ^ 32 - 1
         → StartsOver result cluster.now centre facts disks.old disks.new }

@@ -6,14 +6,14 @@ use Rattle.mdcc_disks.specs.Memory.{disk_of, may_leave_of}
 use Rattle.mdcc_world_logs.proofs.Begun.{next-begun, none-fresh, none-logged, none-read, none-room}
 use Rattle.mdcc_world_logs.proofs.Standing.{held-same}
 use Rattle.mdcc_world_logs.proofs.booting.boot.Goals as goal
-use Rattle.mdcc_node_log.specs.Nodes.{are_stored, cells_of, spare_cells_of}
+use Rattle.mdcc_node_log.specs.Nodes.{are_stored, store_cells}
 use Rattle.mdcc_world_logs.specs.Starting.{RunsWithTail, StartsOver}
 use Rattle.mdcc_world_logs.specs.declared.starting.Attempt.{Attempt}
 use Rattle.mdcc_node_log.specs.Starting.{Runs}
 use Rattle.mdcc_def_simulation.specs.Checkpoints.{checkpoint_every}
 
 -- the centre runs, with no facts but its boot
-runs : (c : goal.In_ok-push-in-Runs) → Runs are_stored spare_cells_of (cells_of c.args.cluster.now) c.in-Runs.started c.args.cluster.now c.args.centre checkpoint_every [] disk_of may_leave_of c.reserve_first.new.disks c.start.new.disks
+runs : (c : goal.In_ok-push-in-Runs) → Runs are_stored store_cells c.args.cluster.now.cells c.in-Runs.started c.args.cluster.now c.args.centre checkpoint_every [] disk_of may_leave_of c.reserve_first.new.disks c.start.new.disks
 runs c =
     let a = c.args.centre in
     let cluster = c.args.cluster.now in
@@ -24,10 +24,10 @@ runs c =
     let read = none-read c.args.logs.now c.reserve_first.new.disks centres (a - 1) a c.requires.begun (omega (some, arith)) few same in
     let room = none-room c.args.logs.now c.reserve_first.new.disks centres (a - 1) a c.requires.begun (omega (some, arith)) few same in
     subst (λ (s : Attempt). StartsOver (Ok s) cluster a [] c.reserve_first.new.disks c.start.new.disks) c.in-Runs.is
-    (c.in_ok-started.ensures.starts [] (none-logged cluster) (omega arith) read room (omega arith))
+    (c.in_ok-started.ensures.starts [] (none-logged cluster) tt read room (omega arith))
 
 pub returns-in_ok-push-in-Runs-clause-node : goal.returns-in_ok-push-in-Runs-clause-node
-returns-in_ok-push-in-Runs-clause-node c = record { itself = (runs c).node; spare = (runs c).spare }
+returns-in_ok-push-in-Runs-clause-node c = record { itself = (runs c).node; cells = (runs c).total_is; fits = (tt, (runs c).fits) }
 
 pub returns-in_ok-push-in-Runs-clause-begun : goal.returns-in_ok-push-in-Runs-clause-begun
 returns-in_ok-push-in-Runs-clause-begun c =

@@ -1,10 +1,11 @@
 use Rattle.std.proofs.Common.{◌≡◌, ◌<◌, ◌+◌, ◌^◌, ◌∙◌, List, ℕ, ap, arith, inl, length, sym, subst}
 use Rattle.mdcc_log_file.specs.Area.{payloads}
 use Rattle.mdcc_disks.specs.Memory.{disk_of, may_leave_of, only_now_of}
-use Rattle.mdcc_world_logs.proofs.Starts.{empty-store, lacking-kept, lacking-over, lacking-tail, no-gate-is-torn-open}
+use Rattle.mdcc_world_logs.proofs.Starts.{lacking-kept, lacking-over, lacking-tail, no-gate-is-torn-open}
 use Rattle.mdcc_world_logs.proofs.Tails.{tail-alike}
 use Rattle.mdcc_world_logs.proofs.starting.start.Goals as goal
-use Rattle.mdcc_node_log.specs.Nodes.{are_stored, cells_of, spare_cells_of}
+use Rattle.mdcc_node_log.proofs.Unbooted.{empty_store}
+use Rattle.mdcc_node_log.specs.Nodes.{are_stored, store_cells}
 use Rattle.mdcc_option.specs.declared.cluster.Cluster.{Cluster}
 use Rattle.mdcc_node_log.specs.Logged.{AreLogged}
 use Rattle.mdcc_node_log.specs.Starting.{HasLogRoom, IsRefused, Runs}
@@ -15,8 +16,8 @@ returns-in-Ok-clause-starts c facts logged fits is room early =
     let cluster = c.args.cluster.now in
     let same : c.copy.result ≡ cluster = c.copy.ensures in
     let was = subst (λ (of : Cluster). AreLogged of facts) (sym same) logged in
-    subst (λ (of : Cluster). Runs are_stored spare_cells_of (cells_of cluster) c.in-Ok.centre of c.args.centre checkpoint_every facts disk_of may_leave_of c.args.disks.now c.start.new.disks) same
-    (c.in-Ok.ensures.starts (cells_of cluster) facts (empty-store c.in_ok-store.store cluster c.in_ok-store.ensures.empty c.in_ok-store.ensures.spare) was is)
+    subst (λ (of : Cluster). Runs are_stored store_cells cluster.cells c.in-Ok.centre of c.args.centre checkpoint_every facts disk_of may_leave_of c.args.disks.now c.start.new.disks) same
+    (c.in-Ok.ensures.starts cluster.cells facts (empty_store c.in_ok-store.store cluster c.in_ok-store.ensures.empty c.in_ok-store.ensures.cells) was is)
 
 pub returns-in-Err-clause-starts : goal.returns-in-Err-clause-starts
 returns-in-Err-clause-starts c facts logged fits is room early =
@@ -27,8 +28,8 @@ returns-in-Err-clause-starts c facts logged fits is room early =
     let roomy = HasLogRoom checkpoint_every (disk_of c.args.disks.now c.args.centre) (disk_of c.args.disks.now (c.args.centre + 16)) in
     rw c.lacking.ensures
     (lacking-over cluster facts logged few fits early c.args.centre c.args.disks.now c.start.new.disks roomy c.in-Err.fault room
-    (subst (λ (of : Cluster). IsRefused (cells_of cluster) of facts roomy c.in-Err.fault) same
-    (c.in-Err.ensures.starts (cells_of cluster) facts (empty-store c.in_ok-store.store cluster c.in_ok-store.ensures.empty c.in_ok-store.ensures.spare) was is)))
+    (subst (λ (of : Cluster). IsRefused cluster.cells of facts roomy c.in-Err.fault) same
+    (c.in-Err.ensures.starts cluster.cells facts (empty_store c.in_ok-store.store cluster c.in_ok-store.ensures.empty c.in_ok-store.ensures.cells) was is)))
 
 pub returns-in-Ok-clause-tail : goal.returns-in-Ok-clause-tail
 returns-in-Ok-clause-tail c area_log told told_other read = c.in-Ok.ensures.tail area_log told told_other read ∙ tail-alike (length area_log.tail)
@@ -52,11 +53,11 @@ returns-in-Ok-clause-any_moment c facts first second logged is only only_other l
     let cluster = c.args.cluster.now in
     let same : c.copy.result ≡ cluster = c.copy.ensures in
     let was = subst (λ (of : Cluster). AreLogged of facts) (sym same) logged in
-    c.start.ensures.any_moment_same (cells_of cluster) facts first second (empty-store c.in_ok-store.store cluster c.in_ok-store.ensures.empty c.in_ok-store.ensures.spare) was is no-gate-is-torn-open only only_other left left_other
+    c.start.ensures.any_moment_same cluster.cells facts first second (empty_store c.in_ok-store.store cluster c.in_ok-store.ensures.empty c.in_ok-store.ensures.cells) was is no-gate-is-torn-open only only_other left left_other
 
 pub returns-in-Err-clause-any_moment : goal.returns-in-Err-clause-any_moment
 returns-in-Err-clause-any_moment c facts first second logged is only only_other left left_other =
     let cluster = c.args.cluster.now in
     let same : c.copy.result ≡ cluster = c.copy.ensures in
     let was = subst (λ (of : Cluster). AreLogged of facts) (sym same) logged in
-    c.start.ensures.any_moment_same (cells_of cluster) facts first second (empty-store c.in_ok-store.store cluster c.in_ok-store.ensures.empty c.in_ok-store.ensures.spare) was is no-gate-is-torn-open only only_other left left_other
+    c.start.ensures.any_moment_same cluster.cells facts first second (empty_store c.in_ok-store.store cluster c.in_ok-store.ensures.empty c.in_ok-store.ensures.cells) was is no-gate-is-torn-open only only_other left left_other

@@ -21,7 +21,7 @@ returns-in-Runs-clause-started c centres up facts stand encodings_of fits few =
     let runs = subst (λ (s : Attempt). StartsOver (Ok s) c.args.cluster.now a (facts a) d c.start.new.disks) c.in-Runs.is
     (c.in_ok-started.ensures.starts (facts a) encodings_of fits (reads c.args.self.now d a (up a) (facts a) its same) roomy few) in
     restarted c.args.self.now _ a centres up facts stand some c.requires.within d same c.start.ensures.others d c.in-Runs.started c.args.cluster.now
-    (ap (λ (n : ℕ). set c.args.self.now.open.items (n - 1) c.in-Runs.started.log) (c.from-index.ensures ∙ c.number.ensures.value)) roomy runs
+    (ap (λ (n : ℕ). set c.args.self.now.open.items (n - 1) c.in-Runs.started.log) (c.from-index.ensures ∙ c.number.ensures.value)) roomy fits runs
 
 pub returns-in-Full-clause-started : goal.returns-in-Full-clause-started
 returns-in-Full-clause-started c centres up facts stand encodings_of fits few =
