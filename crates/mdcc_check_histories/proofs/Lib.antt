@@ -1,12 +1,5 @@
-pub mod Amounts
-pub mod Cursor
-pub mod HeaderTexts
-pub mod Hex
 pub mod InOrder
-pub mod LineTexts
 pub mod NineParts
-pub mod Numbers
-pub mod PartTexts
 pub mod SeenParts
 pub mod Splits
 pub mod TextLaws
@@ -14,5 +7,3 @@ pub mod TextVerdicts
 pub mod ThreeParts
 pub mod Turns
 pub mod Typed
-pub mod WholeTexts
-pub mod WordTexts

@@ -1,4 +1,4 @@
-//! What is written is read, and what is read is a line of a history.
+//! What is read is a line of a history, and what a verdict on a text means.
 ghost use Rattle.std.specs.Prelude.{◌≡◌, ◌-◌, ◌≤◌, List, Ok, Some, length, ℕ, ℤ};
 ghost use Rattle.mdcc_base.specs.Counts.{number_of};
 ghost use Rattle.mdcc_check.specs.Histories.{IsLine, IsRightHistory};
@@ -6,19 +6,8 @@ ghost use Rattle.mdcc_check.specs.Verdicts.{is_commit};
 ghost use Rattle.mdcc_check.specs.declared.history.HistoryLine.{HistoryLine as ALine};
 ghost use Rattle.mdcc_check_histories.specs.Grammar.{line_in};
 ghost use Rattle.mdcc_def_language.specs.Errors.{most_input};
-ghost use Rattle.mdcc_check_histories.specs.Printable.{PrintedHistoryIsRead, PrintedIsRead};
 ghost use Rattle.mdcc_check_histories.specs.Texts.{NumberedLine, history_lines, history_of, text_verdict_of};
 ghost use Rattle.mdcc_check_histories.specs.declared.texts.TextVerdict.{TextVerdict as AVerdict};
-
-/// A line of a history that is written is read back as what was written.
-pub fn printed_is_read()
-    ensures { PrintedIsRead }
-{}
-
-/// A history that is written, its header and its lines, is read back as what was written.
-pub fn printed_history_is_read()
-    ensures { PrintedHistoryIsRead }
-{}
 
 /// A line that is read is as code has it: a transaction of distinct keys, or a read of a version of 64 bits.
 pub fn read_is_line()

@@ -1,4 +1,4 @@
-//! The text of a history, both ways.
+//! The text of a history as it is read, and the verdict on a whole text.
 #![tactic(auto)]
 
 pub mod header;
@@ -6,16 +6,12 @@ mod laws;
 pub mod lines;
 pub mod parts;
 mod places;
-pub mod print;
 mod texts;
 mod unread;
 pub mod words;
 
 pub use header::parse_header;
-pub use laws::{
-    printed_history_is_read, printed_is_read, read_is_line, right_text_is_yes, text_yes_is_right,
-};
+pub use laws::{read_is_line, right_text_is_yes, text_yes_is_right};
 pub use lines::{LineFault, Spelled, line_in};
-pub use print::{print_header, print_line};
 pub use texts::{HistoryFault, TextVerdict, check_text};
 pub use unread::Unread;

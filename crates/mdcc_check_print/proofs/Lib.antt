@@ -1,0 +1,9 @@
+pub mod Amounts
+pub mod Cursor
+pub mod HeaderTexts
+pub mod Hex
+pub mod LineTexts
+pub mod Numbers
+pub mod PartTexts
+pub mod WholeTexts
+pub mod WordTexts

@@ -1,0 +1,3 @@
+pub mod Printable
+pub mod Text
+pub mod Writing
