@@ -4,7 +4,7 @@ use Rattle.std.specs.Prelude.{set}
 use Rattle.std.proofs.lemmas.Bool.{cases_Bool, eqb-true, eq-eqb, le-ltb, lt-ltb}
 use Rattle.std.proofs.lemmas.List.{get_or-set_other, get_or-set_same, length-set}
 use Rattle.mdcc_base.specs.declared.outside.Image.{Image}
-use Rattle.mdcc_node_log.specs.Nodes.{CentreStore, IsNodeOf, spare_cells_of}
+use Rattle.mdcc_node_log.specs.Nodes.{CentreStore, IsNodeOf}
 use Rattle.mdcc_world_logs.proofs.Refusals.{log-payloads}
 use Rattle.mdcc_world_logs.specs.Represents.{LogsRepresent, with_fact_at, with_up}
 use Rattle.mdcc_world_logs.specs.Starting.{cells_with_boot}
@@ -12,14 +12,10 @@ use Rattle.mdcc_world_logs.specs.Tails.{HasTail, tail_at}
 use Rattle.mdcc_world_logs.specs.declared.logs.Logs.{Logs}
 use Rattle.mdcc_node.specs.declared.node.Node.{Node}
 use Rattle.mdcc_def_protocol.specs.Belongs.{is_centre}
-use Rattle.mdcc_def_protocol.proofs.Plain.{cells_plain}
-use Rattle.mdcc_def_protocol.specs.Cells.{cells_held}
-use Rattle.mdcc_def_protocol.specs.Facts.{epoch_of, has_floor}
+use Rattle.mdcc_def_protocol.specs.Facts.{epoch_of}
 use Rattle.mdcc_def_ledger.specs.Ledger.{Added, facts_of}
-use Rattle.mdcc_def_messages.specs.Lengths.{cells_needed, cells_used, log_length}
-use Rattle.mdcc_option.specs.declared.cluster.Cluster.{Cluster}
+use Rattle.mdcc_def_messages.specs.Lengths.{log_length}
 use Rattle.mdcc_def_protocol.specs.Volatile.{Volatile, initial_volatile}
-use Rattle.mdcc_theorem_node_steps.proofs.Unfloored.{allowed-unfloored, within-plain}
 use Rattle.mdcc_def_simulation.specs.State.{SimulatedSite, World, booted, centre_at, counted_event, down, is_up_at}
 use Rattle.mdcc_def_simulation.specs.Checkpoints.{tail_after_append}
 use Rattle.mdcc_def_simulation.specs.Centres.{crash_happened, restart_happened, stop_happened}
@@ -262,22 +258,9 @@ restarted-nodes nodes node w a epoch world centre stand is = record {
     site : SimulatedSite
     site = record booted { tail = tail_after_append (centre_at w a).tail }
 
--- its facts have no floor, so that each holds the cells that it needs
-unfloored : (w : World) (a : ℕ) → IsWorld w → is_centre w.cluster a ≡ true → has_floor (facts_of w.ledger a) ≡ false
-unfloored w a world centre = allowed-unfloored w.cluster (facts_of w.ledger a) (world.nodes a centre).facts_themselves.allowed
-
-pub cells-within : (w : World) (a : ℕ) → IsWorld w → is_centre w.cluster a ≡ true → cells_used (facts_of w.ledger a) ≤ w.cluster.cells
-cells-within w a world centre = within-plain w.cluster (facts_of w.ledger a) (unfloored w a world centre) (world.cells a centre)
-
-module _ (w : World) (a : ℕ) (world : IsWorld w) (centre : is_centre w.cluster a ≡ true) where
-  abbrev held_with_boot : ℕ
-  held_with_boot = cells_held (facts_of w.ledger a) + cells_needed (Fact.Booted (restart_epoch w a))
-
-  held-with-boot : held_with_boot ≡ cells_with_boot (facts_of w.ledger a)
-  held-with-boot = ap (λ (n : ℕ). n + cells_needed (Fact.Booted (restart_epoch w a))) (cells_plain (facts_of w.ledger a) (unfloored w a world centre))
-
-  roomy : cells_with_boot (facts_of w.ledger a) ≤ w.cluster.cells → nat_lt w.cluster.cells held_with_boot ≡ false
-  roomy fits = ap (nat_lt w.cluster.cells) held-with-boot ∙ le-ltb w.cluster.cells (cells_with_boot (facts_of w.ledger a)) fits
+module _ (w : World) (a : ℕ) where
+  roomy : cells_with_boot (facts_of w.ledger a) ≤ w.cluster.cells → nat_lt w.cluster.cells (cells_with_boot (facts_of w.ledger a)) ≡ false
+  roomy fits = le-ltb w.cluster.cells (cells_with_boot (facts_of w.ledger a)) fits
 
   -- the limit of its log, where its cells suffice
   pub restart-limit : cells_with_boot (facts_of w.ledger a) ≤ w.cluster.cells → nat_lt most_log (log_length (Fact.Booted (restart_epoch w a) ∷ facts_of w.ledger a)) ≡ true
@@ -288,19 +271,12 @@ module _ (w : World) (a : ℕ) (world : IsWorld w) (centre : is_centre w.cluster
   pub restart-cells : (needed : ℕ) → w.cluster.cells < cells_with_boot (facts_of w.ledger a) → needed ≡ cells_with_boot (facts_of w.ledger a)
       → restarted w a ≡ Err (EventFault.Limit LimitName.Cells needed)
   restart-cells needed lacks is =
-      let past : nat_lt w.cluster.cells held_with_boot ≡ true = ap (nat_lt w.cluster.cells) held-with-boot ∙ lt-ltb w.cluster.cells (cells_with_boot (facts_of w.ledger a)) lacks in
-      rw (past, is ∙ sym held-with-boot) refl
+      let past : nat_lt w.cluster.cells (cells_with_boot (facts_of w.ledger a)) ≡ true = lt-ltb w.cluster.cells (cells_with_boot (facts_of w.ledger a)) lacks in
+      rw (past, is) refl
 
   pub restart-within : cells_with_boot (facts_of w.ledger a) ≤ w.cluster.cells → nat_lt most_log (log_length (Fact.Booted (restart_epoch w a) ∷ facts_of w.ledger a)) ≡ false
       → restarted w a ≡ Ok (restart_happened (counted_event w) a (restart_epoch w a))
   restart-within fits room = rw (roomy fits, room) refl
-
--- a node of these facts and the new boot has cells for them
-boot-fits : (node : Node CentreStore) (cluster : Cluster) (a epoch : ℕ) (facts : List Fact) → IsNodeOf node cluster a (Fact.Booted epoch ∷ facts) initial_volatile → cells_with_boot facts ≤ cluster.cells
-boot-fits node cluster a epoch facts is = let all = is.spare in least (spare_cells_of node.store) (cells_used facts) cluster.cells all
-  where
-    least : (spare used all : ℕ) → spare + (1 + used) ≡ all → used + 1 ≤ all
-    least spare used all e = omega (e, arith)
 
 facts-restarted : (w : World) (a epoch b : ℕ) → with_fact_at (facts_of w.ledger) a (Fact.Booted epoch) b ≡ facts_of (Added a (Fact.Booted epoch) ∷ w.ledger) b
 facts-restarted w a epoch b = refl
@@ -323,7 +299,7 @@ has-restarted world new kept w a epoch node before lines like centre early many 
     let few = like.records.few_reads in
     let standing : NodesRepresent world.nodes.items (counted_event w) = record { as_many = like.nodes.as_many; each = like.nodes.each } in
     let within : restarted w a ≡ Ok (restart_happened (counted_event w) a epoch) =
-    restart-within w a like.records.itself centre (boot-fits node w.cluster a epoch (facts_of w.ledger a) is) (subst (λ (n : ℕ). nat_lt most_log (log_length (Fact.Booted n ∷ facts_of w.ledger a)) ≡ false) same room)
+    restart-within w a is.fits.1 (subst (λ (n : ℕ). nat_lt most_log (log_length (Fact.Booted n ∷ facts_of w.ledger a)) ≡ false) same room)
     ∙ ap (λ (n : ℕ). Ok (restart_happened (counted_event w) a n)) (sym same) in
     let itself : IsWorld (restart_happened (counted_event w) a epoch).world =
     restarted-stays w a (restart_happened (counted_event w) a epoch) like.records.itself centre early within in

@@ -8,7 +8,8 @@ use Rattle.mdcc_def_rules.specs.declared.node.Input.{Input}
 use Rattle.mdcc_def_simulation.specs.State.{centre_at}
 use Rattle.mdcc_def_rules.specs.declared.node.StepFault.{StepFault}
 use Rattle.mdcc_world.proofs.NodesStay.{made-is, made-kept, node-under, runs-at, stepped}
-use Rattle.mdcc_world.proofs.Roomy.{node-left, step-roomy}
+use Rattle.mdcc_node_log.proofs.NodeSteps.{step-of-node}
+use Rattle.mdcc_world.proofs.Roomy.{node-left}
 use Rattle.mdcc_world.proofs.nodes.receive.Goals as goal
 
 pub deliver-requires-clause-message : goal.deliver-requires-clause-message
@@ -33,7 +34,7 @@ returns-clause-answer c w standing up =
     let input = Input.Message c.args.envelope.now in
     let gives = c.deliver.ensures.follows.answer w.cluster a (facts_of w.ledger a) (centre_at w a).volatile node.itself in
     made-is c.run_result.result c.deliver.result c.deliver.new.step _ c.run_result.ensures.same c.run_result.ensures.memory
-    (subst (λ (r : Result NodeStep StepFault). GivesUnless is_step_memory (unless_refused c.deliver.result c.deliver.new.step) (step_result r)) (step-roomy _ w.cluster a (facts_of w.ledger a) (centre_at w a).volatile node input) gives)
+    (subst (λ (r : Result NodeStep StepFault). GivesUnless is_step_memory (unless_refused c.deliver.result c.deliver.new.step) (step_result r)) (step-of-node _ w.cluster a (facts_of w.ledger a) (centre_at w a).volatile node input) gives)
 
 pub returns-clause-left : goal.returns-clause-left
 returns-clause-left c w world standing up =
@@ -44,8 +45,7 @@ returns-clause-left c w world standing up =
     let input = Input.Message c.args.envelope.now in
     let facts = facts_of w.ledger a in
     let volatile = (centre_at w a).volatile in
-    let gives = c.deliver.ensures.follows.answer w.cluster a facts volatile node.itself in
     let left = c.deliver.ensures.follows.left w.cluster a facts volatile node.itself in
     made-kept c.run_result.result c.deliver.result c.deliver.new.step _ c.run_result.ensures.memory
     (stepped c.args.nodes.now w a c.from.result c.deliver.new.self input standing world some c.requires.within place c.requires.formed _
-    (step-roomy _ w.cluster a facts volatile node input) (unless_refused c.deliver.result c.deliver.new.step) (node-left _ w.cluster a facts volatile node c.deliver.new.self (unless_refused c.deliver.result c.deliver.new.step) _ gives c.deliver.ensures.spent left))
+    (step-of-node _ w.cluster a facts volatile node input) (unless_refused c.deliver.result c.deliver.new.step) (node-left _ w.cluster a facts volatile node c.deliver.new.self input _ (step-of-node _ w.cluster a facts volatile node input) (unless_refused c.deliver.result c.deliver.new.step) c.deliver.ensures.cells left))

@@ -1,11 +1,10 @@
-use Rattle.std.proofs.Common.{◌<◌, ◌≤◌, ◌+◌, ◌-◌, ◌∷◌, Bool, List, Ok, Option, true, ℕ, arith, ap, ◌∙◌, subst}
+use Rattle.std.proofs.Common.{◌<◌, ◌+◌, ◌-◌, ◌∷◌, Bool, List, Ok, Option, true, ℕ, arith, ap, ◌∙◌, subst}
 use Rattle.mdcc_node_log.specs.Nodes.{IsNodeOf}
 use Rattle.mdcc_world_logs.specs.Represents.{with_up}
 use Rattle.mdcc_world_logs.specs.Starting.{HasStarted, Starts}
 use Rattle.mdcc_world_logs.specs.Tails.{HasTail, StartsWithTail, tail_at}
 use Rattle.mdcc_world_logs.specs.declared.starting.Started.{Started}
 use Rattle.mdcc_option.specs.declared.cluster.Cluster.{Cluster}
-use Rattle.mdcc_def_messages.specs.Lengths.{cells_used}
 use Rattle.mdcc_base.specs.declared.outside.Image.{Image}
 use Rattle.mdcc_def_ledger.specs.Ledger.{facts_of}
 use Rattle.mdcc_def_simulation.specs.State.{is_up_at}
@@ -14,7 +13,8 @@ use Rattle.mdcc_def_protocol.specs.Volatile.{initial_volatile}
 use Rattle.mdcc_def_messages.specs.declared.facts.Fact.{Fact}
 use Rattle.mdcc_node_log.specs.Logged.{AreLogged}
 use Rattle.mdcc_def_simulation.specs.Checkpoints.{tail_after_append}
-use Rattle.mdcc_world.proofs.Crashed.{cells-within, has-restarted, may-restart, more-epochs, restart-cells, restart-limit}
+use Rattle.mdcc_world.proofs.Crashed.{has-restarted, may-restart, more-epochs, restart-cells, restart-limit}
+use Rattle.mdcc_theorem_node_steps.specs.NodeInvariant.{FitInTurn}
 use Rattle.mdcc_theorem_worlds.proofs.Stays.{some-centre}
 use Rattle.mdcc_world.proofs.world.World.restart_at.Goals as goal
 
@@ -40,7 +40,7 @@ returns-in_ok-push-in-Node-clause-happens c w like =
     let events = like.records.events in
     let early : w.events < 100000 = omega (events, c.requires.few, arith) in
     let logged : AreLogged world.cluster (facts_of w.ledger a) = rw like.records.cluster (may-restart w a like.records.itself centre) in
-    let fits : cells_used (facts_of w.ledger a) ≤ world.cluster.cells = rw like.records.cluster (cells-within w a like.records.itself centre) in
+    let fits : FitInTurn world.cluster (facts_of w.ledger a) = rw like.records.cluster (like.records.itself.cells a centre) in
     let started : HasStarted c.in-Node.node c.in-Node.epoch c.restart.new.self world.cluster w.cluster.quorums.centres (with_up (is_up_at w) a true) a (facts_of w.ledger) =
     subst (λ (s : Started). Starts (Ok s) c.restart.new.self world.cluster w.cluster.quorums.centres (with_up (is_up_at w) a true) a (facts_of w.ledger)) c.in-Node.is
     (c.in_ok-node.ensures.started w.cluster.quorums.centres (is_up_at w) (facts_of w.ledger) like.logs logged fits (more-epochs w a like.records.itself centre early)) in
@@ -62,12 +62,12 @@ returns-in-Full-clause-happens c w like =
     let events = like.records.events in
     let early : w.events < 100000 = omega (events, c.requires.few, arith) in
     let logged : AreLogged world.cluster (facts_of w.ledger a) = rw like.records.cluster (may-restart w a like.records.itself centre) in
-    let fits : cells_used (facts_of w.ledger a) ≤ world.cluster.cells = rw like.records.cluster (cells-within w a like.records.itself centre) in
+    let fits : FitInTurn world.cluster (facts_of w.ledger a) = rw like.records.cluster (like.records.itself.cells a centre) in
     let lacks : Starts (Ok Started.Full) c.restart.new.self w.cluster w.cluster.quorums.centres (with_up (is_up_at w) a true) a (facts_of w.ledger) =
     subst (λ (of : Cluster). Starts (Ok Started.Full) c.restart.new.self of w.cluster.quorums.centres (with_up (is_up_at w) a true) a (facts_of w.ledger)) like.records.cluster
     (subst (λ (s : Started). Starts (Ok s) c.restart.new.self world.cluster w.cluster.quorums.centres (with_up (is_up_at w) a true) a (facts_of w.ledger)) c.in-Full.is
     (c.in_ok-node.ensures.started w.cluster.quorums.centres (is_up_at w) (facts_of w.ledger) like.logs logged fits (more-epochs w a like.records.itself centre early))) in
-    restart-limit w a like.records.itself centre lacks.0 lacks.1
+    restart-limit w a lacks.0 lacks.1
 
 pub returns-in-NoRoom-clause-happens : goal.returns-in-NoRoom-clause-happens
 returns-in-NoRoom-clause-happens c w like =
@@ -77,9 +77,9 @@ returns-in-NoRoom-clause-happens c w like =
     let events = like.records.events in
     let early : w.events < 100000 = omega (events, c.requires.few, arith) in
     let logged : AreLogged world.cluster (facts_of w.ledger a) = rw like.records.cluster (may-restart w a like.records.itself centre) in
-    let fits : cells_used (facts_of w.ledger a) ≤ world.cluster.cells = rw like.records.cluster (cells-within w a like.records.itself centre) in
+    let fits : FitInTurn world.cluster (facts_of w.ledger a) = rw like.records.cluster (like.records.itself.cells a centre) in
     let lacks : Starts (Ok (Started.NoRoom c.in-NoRoom.needed)) c.restart.new.self w.cluster w.cluster.quorums.centres (with_up (is_up_at w) a true) a (facts_of w.ledger) =
     subst (λ (of : Cluster). Starts (Ok (Started.NoRoom c.in-NoRoom.needed)) c.restart.new.self of w.cluster.quorums.centres (with_up (is_up_at w) a true) a (facts_of w.ledger)) like.records.cluster
     (subst (λ (s : Started). Starts (Ok s) c.restart.new.self world.cluster w.cluster.quorums.centres (with_up (is_up_at w) a true) a (facts_of w.ledger)) c.in-NoRoom.is
     (c.in_ok-node.ensures.started w.cluster.quorums.centres (is_up_at w) (facts_of w.ledger) like.logs logged fits (more-epochs w a like.records.itself centre early))) in
-    restart-cells w a like.records.itself centre c.in-NoRoom.needed lacks.0 lacks.1
+    restart-cells w a c.in-NoRoom.needed lacks.0 lacks.1
