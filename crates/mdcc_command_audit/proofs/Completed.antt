@@ -7,16 +7,14 @@ use Rattle.mdcc_command_audit.specs.Commands.{AuditCompletes, AuditEnds, Audits,
 use Rattle.mdcc_command_audit.specs.declared.found.Found.{Found}
 use Rattle.mdcc_base.specs.declared.source.ReadAllFault.{ReadAllFault}
 use Rattle.mdcc_node_log.proofs.Starts.{boot-ends}
-use Rattle.mdcc_node_log.proofs.Unbooted.{needed_in, spare_of}
 use Rattle.mdcc_node_log.specs.Logged.{AreLogged}
-use Rattle.mdcc_node_log.specs.Nodes.{cells_of, facts_at_boot}
+use Rattle.mdcc_node_log.specs.Nodes.{are_stored, facts_at_boot, store_cells}
 use Rattle.mdcc_config.specs.declared.config.Config.{Config}
 use Rattle.mdcc_disks.specs.Disks.{Disk}
 use Rattle.mdcc_command_endings.proofs.Accepted.{IsUnlucky, accepted, status_done, status_failed}
 use Rattle.mdcc_command_endings.specs.Endings.{status_after}
 use Rattle.mdcc_command_endings.specs.Logs.{LogRefusal, SaysLogs, SaysRefused, node_booted_at, node_from, node_of}
 use Rattle.mdcc_command_endings.specs.declared.fault.Failure.{Failure}
-use Rattle.mdcc_index.specs.Stores.{Represents}
 use Rattle.mdcc_log_file.specs.declared.fault.LogFault.{LogFault}
 use Rattle.mdcc_def_messages.specs.Spelling.{encodings_of}
 use Rattle.mdcc_def_messages.specs.declared.facts.Fact.{Fact}
@@ -30,11 +28,11 @@ use Rattle.mdcc_def_rules.specs.declared.node.BootFault.{BootFault}
 module _ (cluster : Cluster) (facts : List Fact) (are : AreLogged cluster facts) (below : epoch_of facts < 2 ^ 32 - 1) where
   not_epochs : facts_at_boot cluster (encodings_of facts) ≡ Err BootFault.Epochs → ⊥
   not_epochs is =
-      let past : 2 ^ 32 - 1 ≤ epoch_of facts = boot-ends Represents spare_of needed_in (cells_of cluster) cluster 1 facts (encodings_of facts) refl are BootFault.Epochs is in
+      let past : 2 ^ 32 - 1 ≤ epoch_of facts = boot-ends are_stored store_cells cluster.cells cluster 1 facts (encodings_of facts) refl are BootFault.Epochs is in
       omega (below, past, arith)
 
   not_none : (n : ℕ) → facts_at_boot cluster (encodings_of facts) ≡ Err (BootFault.NotARun n) → ⊥
-  not_none n is = boot-ends Represents spare_of needed_in (cells_of cluster) cluster 1 facts (encodings_of facts) refl are (BootFault.NotARun n) is
+  not_none n is = boot-ends are_stored store_cells cluster.cells cluster 1 facts (encodings_of facts) refl are (BootFault.NotARun n) is
 
 not_read : (b : Result (List Fact) BootFault) (n : ℕ) → node_of b ≡ Err (LogRefusal.NotALog n) → ⊥
 not_read (Ok facts) n e = cc

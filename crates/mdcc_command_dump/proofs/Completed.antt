@@ -7,7 +7,6 @@ use Rattle.mdcc_log_file.specs.declared.fault.LogFault.{LogFault}
 use Rattle.mdcc_base.specs.declared.source.ReadAllFault.{ReadAllFault}
 use Rattle.mdcc_config.specs.declared.config.Config.{Config}
 use Rattle.mdcc_disks.specs.Disks.{Disk}
-use Rattle.mdcc_node_log.proofs.Unbooted.{needed_in, spare_of}
 use Rattle.mdcc_command_dump.specs.Commands.{DumpCompletes, DumpEndsByLog, Dumps, DumpsOne, RunsDump, as_done}
 use Rattle.mdcc_command_dump.specs.Dumps.{IsDumped, dump_text}
 use Rattle.mdcc_command_dump.specs.declared.fault.DumpFault.{DumpFault}
@@ -16,9 +15,8 @@ use Rattle.mdcc_command_endings.proofs.LogEnds.{ends_by_logs, ends_unlucky}
 use Rattle.mdcc_command_endings.specs.Completions.{CompletesAs, IsStill}
 use Rattle.mdcc_command_endings.specs.Endings.{status_after}
 use Rattle.mdcc_command_endings.specs.Logs.{EndsByLogs, node_booted_at}
-use Rattle.mdcc_node_log.specs.Nodes.{cells_of, facts_at_boot}
+use Rattle.mdcc_node_log.specs.Nodes.{are_stored, facts_at_boot, store_cells}
 use Rattle.mdcc_command_endings.specs.declared.fault.Failure.{Failure}
-use Rattle.mdcc_index.specs.Stores.{Represents}
 use Rattle.mdcc_def_messages.specs.Spelling.{encodings_of}
 use Rattle.mdcc_def_messages.specs.declared.facts.Fact.{Fact}
 use Rattle.mdcc_option.specs.declared.cluster.Cluster.{Cluster}
@@ -37,11 +35,11 @@ still_disks disk old new a still (inr rose) = still (a + 16) rose
 module _ (cluster : Cluster) (facts : List Fact) (are : AreLogged cluster facts) (below : epoch_of facts < 2 ^ 32 - 1) where
   not_epochs : facts_at_boot cluster (encodings_of facts) ≡ Err BootFault.Epochs → ⊥
   not_epochs is =
-      let past : 2 ^ 32 - 1 ≤ epoch_of facts = boot-ends Represents spare_of needed_in (cells_of cluster) cluster 1 facts (encodings_of facts) refl are BootFault.Epochs is in
+      let past : 2 ^ 32 - 1 ≤ epoch_of facts = boot-ends are_stored store_cells cluster.cells cluster 1 facts (encodings_of facts) refl are BootFault.Epochs is in
       omega (below, past, arith)
 
   not_none : (n : ℕ) → facts_at_boot cluster (encodings_of facts) ≡ Err (BootFault.NotARun n) → ⊥
-  not_none n is = boot-ends Represents spare_of needed_in (cells_of cluster) cluster 1 facts (encodings_of facts) refl are (BootFault.NotARun n) is
+  not_none n is = boot-ends are_stored store_cells cluster.cells cluster 1 facts (encodings_of facts) refl are (BootFault.NotARun n) is
 
 module _ {D O : Type 0} (disk : D → ℕ → Disk) (held : O → Option (List ℕ)) (disks_old disks_new : D) (out_old out_new : O)
     (dumped : Result (Unit {0}) Failure) (status : ℕ) (status_is : (status ≡ status_after dumped) ⊎ IsTrue (is_err dumped && status == 10))
