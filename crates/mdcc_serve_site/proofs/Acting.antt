@@ -1,24 +1,22 @@
 -- What the node of a centre makes of an input.
-use Rattle.std.proofs.Common.{◌≡◌, ℕ, ◌+◌, ◌-◌, List, [], ◌∷◌, Option, Some, None, Result, Ok, Err, ap, refl, sym, ◌∙◌, subst, arith}
+use Rattle.std.proofs.Common.{◌≡◌, ℕ, List, [], ◌∷◌, Option, Some, None, Result, Ok, Err, refl, ◌∙◌, subst, arith}
 use Rattle.std.specs.List.{AllByRecursion}
 use Rattle.std.specs.Prelude.{IfSome}
 use Rattle.mdcc_base.specs.Unless.{GivesUnless}
 use Rattle.mdcc_journal.specs.Counts.{HasCounts as FactHasCounts}
-use Rattle.mdcc_node_log.specs.Nodes.{CentreStore, IsNodeOf, are_stored, needed_in, spare_cells_of}
-use Rattle.mdcc_def_messages.specs.Lengths.{cells_needed, cells_used}
+use Rattle.mdcc_node_log.proofs.NodeSteps.{step-of-node}
+use Rattle.mdcc_node_log.specs.Nodes.{CentreStore, IsNodeOf, are_stored, store_cells}
 use Rattle.mdcc_def_messages.specs.WellFormed.{IsWellFormedEnvelope, IsWellFormedFact, IsWellFormedMessage}
 use Rattle.mdcc_def_messages.specs.declared.facts.Fact.{Fact}
 use Rattle.mdcc_def_messages.specs.declared.messages.Envelope.{Envelope}
 use Rattle.mdcc_def_messages.specs.declared.messages.Message.{Message}
-use Rattle.mdcc_node.proofs.Rooms.{counted_steps}
-use Rattle.mdcc_node.specs.MethodEffects.{Follows, Spends, cells_taken}
+use Rattle.mdcc_node.specs.MethodEffects.{Follows}
 use Rattle.mdcc_node.specs.StepPlans.{unless_refused}
 use Rattle.mdcc_node.specs.NodeHistory.{IsRunning}
 use Rattle.mdcc_node.specs.Represents.{RepresentsAfter, RepresentsCentre}
-use Rattle.mdcc_node.specs.StepAnswers.{IsInputGiven, UnlessMemory, step_result, is_step_memory, room_of, step_by}
+use Rattle.mdcc_node.specs.StepAnswers.{IsInputGiven, UnlessMemory, step_result, is_step_memory, step_by}
 use Rattle.mdcc_node.specs.declared.node.Node.{Node}
 use Rattle.mdcc_option.specs.declared.cluster.Cluster.{Cluster}
-use Rattle.mdcc_def_protocol.proofs.Plain.{cells_plain}
 use Rattle.mdcc_def_protocol.specs.Volatile.{Volatile}
 use Rattle.mdcc_def_rules.specs.Here.{here}
 use Rattle.mdcc_def_rules.specs.Node.{step_of}
@@ -29,7 +27,9 @@ use Rattle.mdcc_def_rules.specs.declared.node.StepFault.{StepFault}
 use Rattle.mdcc_def_server_runs.specs.Sites.{Site}
 use Rattle.mdcc_serve_site.specs.SiteState.{Acted, CanBeSent, HasStepped, IsShortFact, IsSite}
 use Rattle.mdcc_serve_site.specs.declared.site.Site.{Site as TheSite}
-use Rattle.mdcc_theorem_node_steps.specs.NodeInvariant.{AddedFactIsShort, AddedFactIsWellFormed, CellsGiveRoom, IsNode, NodeStays, SendsAreWellFormed}
+use Rattle.mdcc_theorem_node_steps.proofs.Roomy.{room-stays}
+use Rattle.mdcc_theorem_node_steps.proofs.Unfloored.{allowed-unfloored, within-plain}
+use Rattle.mdcc_theorem_node_steps.specs.NodeInvariant.{AddedFactIsShort, AddedFactIsWellFormed, CellsGiveRoom, FitInTurn, HasRoom, IsNode, NodeStays, SendsAreWellFormed}
 use Rattle.mdcc_wire.specs.Counts.{HasMessageCounts}
 
 -- what is known of any step
@@ -52,34 +52,27 @@ running_is cluster held site is = record {
   kept = is.kept;
 }
 
--- ---- a node whose store counts the cells of the cluster
+-- ---- a node whose store has the cells of the cluster
 
-left_over : (spare used all : ℕ) → spare + used ≡ all → spare ≡ all - used
-left_over spare used all e = omega (e, arith)
-
-module _ (node : Node CentreStore) (cluster : Cluster) (me : ℕ) (facts : List Fact) (volatile : Volatile) (is : IsNodeOf node cluster me facts volatile) where
-  -- its step is the one of the definitions
-  step_roomy : (input : Input) → step_by (room_of spare_cells_of needed_in node.store) cluster me facts volatile input ≡ step_of (here cluster me facts) volatile input
-  step_roomy input =
-      counted_steps (room_of spare_cells_of needed_in node.store) cluster me facts volatile input (left_over (spare_cells_of node.store) (cells_used facts) cluster.cells is.spare ∙ ap (λ (n : ℕ). cluster.cells - n) (sym (cells_plain facts is.itself.store.added.no_floor))) (λ fact. refl)
-
-  module _ (after : Node CentreStore) where
-    spent : (o : Option Fact) → spare_cells_of after.store + cells_taken (needed_in node.store) o ≡ spare_cells_of node.store → spare_cells_of after.store + cells_used (with_new facts o) ≡ cluster.cells
-    spent None e = let all = is.spare in omega (e, all, arith)
-    spent (Some fact) e = sum (spare_cells_of after.store) (cells_needed fact) (spare_cells_of node.store) (cells_used facts) cluster.cells e is.spare
-      where
-        sum : (left needed spare used all : ℕ) → left + needed ≡ spare → spare + used ≡ all → left + (needed + used) ≡ all
-        sum left needed spare used all e f = omega (e, f, arith)
-
+module _ (node : Node CentreStore) (cluster : Cluster) (me : ℕ) (facts : List Fact) (volatile : Volatile) (is : IsNodeOf node cluster me facts volatile) (after : Node CentreStore)
+    (same : store_cells after.store ≡ store_cells node.store)
+  where
     -- it made this step
-    node_stepped : (step : Step) (planned : NodeStep) → step ≡ step_given planned → Spends spare_cells_of needed_in node.store (Ok step) after.store
+    node_stepped : (input : Input) (planned : NodeStep) → step_of (here cluster me facts) volatile input ≡ Ok planned
         → RepresentsCentre are_stored after cluster me (with_new facts planned.fact) planned.after → IsNodeOf after cluster me (with_new facts planned.fact) planned.after
-    node_stepped step planned same spends left =
-        record { itself = left; spare = spent planned.fact (subst (λ (s : Step). spare_cells_of after.store + cells_taken (needed_in node.store) s.fact ≡ spare_cells_of node.store) same spends) }
+    node_stepped input planned made left =
+        record { itself = left; cells = same ∙ is.cells; fits = room-stays cluster me facts volatile input planned is.fits made }
 
     -- it refused an input
-    node_refused : Spends spare_cells_of needed_in node.store (Err StepFault.Foreign) after.store → RepresentsCentre are_stored after cluster me facts volatile → IsNodeOf after cluster me facts volatile
-    node_refused spends left = record { itself = left; spare = spent None (let same = spends in omega (same, arith)) }
+    node_refused : RepresentsCentre are_stored after cluster me facts volatile → IsNodeOf after cluster me facts volatile
+    node_refused left = record { itself = left; cells = same ∙ is.cells; fits = is.fits }
+
+-- the facts of a node are few enough for the votes that a promise reports
+node_room : (cluster : Cluster) (me : ℕ) (facts : List Fact) (volatile : Volatile) → CellsGiveRoom → IsNode cluster me facts volatile → FitInTurn cluster facts → HasRoom facts
+node_room cluster me facts volatile gives kept fits =
+    let used = within-plain cluster facts (allowed-unfloored cluster facts kept.facts_themselves.allowed) fits in
+    let most = kept.cluster_itself.cells in
+    gives facts (omega (used, most, arith))
 
 -- ---- what the caller is given
 
@@ -97,85 +90,84 @@ same_new facts (Some fact) = refl
 
 -- ---- the step
 
-module _ (laws : StepLaws) (cluster : Cluster) (held : TheSite) (site : Site) (is : IsSite cluster held site) (input : Input) (given_input : IsInputGiven input) (after : Node CentreStore) where
-  abbrev facts : List Fact
-  facts = site.node.facts
+module _ (laws : StepLaws) (cluster : Cluster) (held : TheSite) (site : Site) (is : IsSite cluster held site) (input : Input) (given_input : IsInputGiven input) (after : Node CentreStore)
+    (cells : store_cells after.store ≡ store_cells held.node.store)
+  where
+    abbrev facts : List Fact
+    facts = site.node.facts
 
-  abbrev volatile : Volatile
-  volatile = site.node.volatile
+    abbrev volatile : Volatile
+    volatile = site.node.volatile
 
-  fits : (step : NodeStep) → step_of (here cluster site.centre facts) volatile input ≡ Ok step → (o : Option Fact) → step.fact ≡ o → IfSome o IsShortFact
-  fits step made None e = tt
-  fits step made (Some fact) e =
-      let formed = laws.fact cluster site.centre facts volatile input step fact is.kept given_input.0 made e in
-      (laws.fact_counts fact formed, laws.short cluster site.centre facts volatile input step fact given_input.1 is.kept given_input.0 made e)
+    fits : (step : NodeStep) → step_of (here cluster site.centre facts) volatile input ≡ Ok step → (o : Option Fact) → step.fact ≡ o → IfSome o IsShortFact
+    fits step made None e = tt
+    fits step made (Some fact) e =
+        let formed = laws.fact cluster site.centre facts volatile input step fact is.kept given_input.0 made e in
+        (laws.fact_counts fact formed, laws.short cluster site.centre facts volatile input step fact given_input.1 is.kept given_input.0 made e)
 
-  all_sent : (xs : List Envelope) → AllByRecursion IsWellFormedEnvelope xs → AllByRecursion CanBeSent xs
-  all_sent [] formed = tt
-  all_sent (x ∷ xs) formed = (laws.message_counts x.message formed.0.message, all_sent xs formed.1)
+    all_sent : (xs : List Envelope) → AllByRecursion IsWellFormedEnvelope xs → AllByRecursion CanBeSent xs
+    all_sent [] formed = tt
+    all_sent (x ∷ xs) formed = (laws.message_counts x.message formed.0.message, all_sent xs formed.1)
 
-  -- it stepped
-  stepped : (step : Step) (planned : NodeStep) → step_of (here cluster site.centre facts) volatile input ≡ Ok planned → step ≡ step_given planned
-      → Spends spare_cells_of needed_in held.node.store (Ok step) after.store → RepresentsCentre are_stored after cluster site.centre (with_new facts planned.fact) planned.after
-      → HasStepped cluster (record held { node = after }) site planned
-  stepped step planned made same spends left = record {
-    node = node_stepped held.node cluster site.centre facts volatile is.node after step planned same spends left;
-    kept = subst (λ (fs : List Fact). IsNode cluster site.centre fs planned.after) (same_new facts planned.fact)
-        (laws.stays cluster site.centre facts volatile input planned is.kept given_input.0 made);
-    centre = is.centre;
-    sender = is.sender;
-    clients = is.clients;
-    own = is.own;
-    asked = is.asked;
-    waits = record { pending = is.waits.pending; all = is.waits.all; facts = is.waits.facts; envelopes = is.waits.envelopes };
-    fact = fits planned made planned.fact refl;
-    sends = all_sent planned.sends (laws.sends cluster site.centre facts volatile input planned
-        (laws.room facts (let few = is.node.spare in let most = is.kept.cluster_itself.cells in omega (few, most, arith))) is.kept given_input.0 made);
-  }
+    -- it stepped
+    stepped : (planned : NodeStep) → step_of (here cluster site.centre facts) volatile input ≡ Ok planned
+        → RepresentsCentre are_stored after cluster site.centre (with_new facts planned.fact) planned.after
+        → HasStepped cluster (record held { node = after }) site planned
+    stepped planned made left = record {
+      node = node_stepped held.node cluster site.centre facts volatile is.node after cells input planned made left;
+      kept = subst (λ (fs : List Fact). IsNode cluster site.centre fs planned.after) (same_new facts planned.fact)
+          (laws.stays cluster site.centre facts volatile input planned is.kept given_input.0 made);
+      centre = is.centre;
+      sender = is.sender;
+      clients = is.clients;
+      own = is.own;
+      asked = is.asked;
+      waits = record { pending = is.waits.pending; all = is.waits.all; facts = is.waits.facts; envelopes = is.waits.envelopes };
+      fact = fits planned made planned.fact refl;
+      sends = all_sent planned.sends (laws.sends cluster site.centre facts volatile input planned
+          (node_room cluster site.centre facts volatile laws.room is.kept is.node.fits) is.kept given_input.0 made);
+    }
 
-  -- it refused
-  refused : Spends spare_cells_of needed_in held.node.store (Err StepFault.Foreign) after.store → RepresentsCentre are_stored after cluster site.centre facts volatile → IsSite cluster (record held { node = after }) site
-  refused spends left = record {
-    node = node_refused held.node cluster site.centre facts volatile is.node after spends left;
-    kept = is.kept;
-    centre = is.centre;
-    sender = is.sender;
-    clients = is.clients;
-    own = is.own;
-    asked = is.asked;
-    waits = record { pending = is.waits.pending; all = is.waits.all; facts = is.waits.facts; envelopes = is.waits.envelopes };
-  }
+    -- it refused
+    refused : RepresentsCentre are_stored after cluster site.centre facts volatile → IsSite cluster (record held { node = after }) site
+    refused left = record {
+      node = node_refused held.node cluster site.centre facts volatile is.node after cells left;
+      kept = is.kept;
+      centre = is.centre;
+      sender = is.sender;
+      clients = is.clients;
+      own = is.own;
+      asked = is.asked;
+      waits = record { pending = is.waits.pending; all = is.waits.all; facts = is.waits.facts; envelopes = is.waits.envelopes };
+    }
 
-  module _ (step : Step) where
-    refused_by : (fault : StepFault) (r : Result NodeStep StepFault) → Err fault ≡ step_result r
-        → RepresentsAfter are_stored after cluster site.centre facts volatile r → Spends spare_cells_of needed_in held.node.store (Err StepFault.Foreign) after.store
-        → (r ≡ Err fault) × IsSite cluster (record held { node = after }) site
-    refused_by fault r gives left spends =
-        let e = err_given fault r gives in
-        (e, refused spends (subst (λ (x : Result NodeStep StepFault). RepresentsAfter are_stored after cluster site.centre facts volatile x) e left))
+    module _ (step : Step) where
+      refused_by : (fault : StepFault) (r : Result NodeStep StepFault) → Err fault ≡ step_result r
+          → RepresentsAfter are_stored after cluster site.centre facts volatile r
+          → (r ≡ Err fault) × IsSite cluster (record held { node = after }) site
+      refused_by fault r gives left =
+          let e = err_given fault r gives in
+          (e, refused (subst (λ (x : Result NodeStep StepFault). RepresentsAfter are_stored after cluster site.centre facts volatile x) e left))
 
-    acted_by : (r : Result NodeStep StepFault) → step_of (here cluster site.centre facts) volatile input ≡ r → (result : Result (Unit {0}) StepFault)
-        → GivesUnless is_step_memory (unless_refused result step) (step_result r) → UnlessMemory (unless_refused result step) (RepresentsAfter are_stored after cluster site.centre facts volatile r)
-        → Spends spare_cells_of needed_in held.node.store (unless_refused result step) after.store
-        → Acted cluster (record held { node = after }) site r result step
-    acted_by r made (Ok done) gives left spends =
-        let s = ok_given step r gives in
-        (s.0, s.1, s.2, stepped step s.0 (made ∙ s.1) s.2 spends (subst (λ (x : Result NodeStep StepFault). RepresentsAfter are_stored after cluster site.centre facts volatile x) s.1 left))
-    acted_by r made (Err StepFault.Memory) gives left spends = tt
-    acted_by r made (Err StepFault.Foreign) gives left spends = refused_by StepFault.Foreign r gives left spends
-    acted_by r made (Err (StepFault.NoRoom needed spare)) gives left spends = refused_by (StepFault.NoRoom needed spare) r gives left spends
-    acted_by r made (Err StepFault.Crowded) gives left spends = refused_by StepFault.Crowded r gives left spends
-    acted_by r made (Err StepFault.Exhausted) gives left spends = refused_by StepFault.Exhausted r gives left spends
+      acted_by : (r : Result NodeStep StepFault) → step_of (here cluster site.centre facts) volatile input ≡ r → (result : Result (Unit {0}) StepFault)
+          → GivesUnless is_step_memory (unless_refused result step) (step_result r) → UnlessMemory (unless_refused result step) (RepresentsAfter are_stored after cluster site.centre facts volatile r)
+          → Acted cluster (record held { node = after }) site r result step
+      acted_by r made (Ok done) gives left =
+          let s = ok_given step r gives in
+          (s.0, s.1, s.2, stepped s.0 (made ∙ s.1) (subst (λ (x : Result NodeStep StepFault). RepresentsAfter are_stored after cluster site.centre facts volatile x) s.1 left))
+      acted_by r made (Err StepFault.Memory) gives left = tt
+      acted_by r made (Err StepFault.Foreign) gives left = refused_by StepFault.Foreign r gives left
+      acted_by r made (Err (StepFault.NoRoom needed spare)) gives left = refused_by (StepFault.NoRoom needed spare) r gives left
+      acted_by r made (Err StepFault.Crowded) gives left = refused_by StepFault.Crowded r gives left
+      acted_by r made (Err StepFault.Exhausted) gives left = refused_by StepFault.Exhausted r gives left
 
-    pub acted_as : (result : Result (Unit {0}) StepFault)
-        → Follows are_stored held.node (unless_refused result step) after (λ cluster me facts volatile. step_by (room_of spare_cells_of needed_in held.node.store) cluster me facts volatile input)
-        → Spends spare_cells_of needed_in held.node.store (unless_refused result step) after.store
-        → Acted cluster (record held { node = after }) site (step_of (here cluster site.centre facts) volatile input) result step
-    acted_as result follows spends =
-        let roomy = step_roomy held.node cluster site.centre facts volatile is.node input in
-        let gives = follows.answer cluster site.centre facts volatile is.node.itself in
-        let left = follows.left cluster site.centre facts volatile is.node.itself in
-        acted_by (step_of (here cluster site.centre facts) volatile input) refl result
-        (subst (λ (r : Result NodeStep StepFault). GivesUnless is_step_memory (unless_refused result step) (step_result r)) roomy gives)
-        (subst (λ (r : Result NodeStep StepFault). UnlessMemory (unless_refused result step) (RepresentsAfter are_stored after cluster site.centre facts volatile r)) roomy left)
-        spends
+      pub acted_as : (result : Result (Unit {0}) StepFault)
+          → Follows are_stored held.node (unless_refused result step) after (λ cluster me facts volatile. step_by (store_cells held.node.store) cluster me facts volatile input)
+          → Acted cluster (record held { node = after }) site (step_of (here cluster site.centre facts) volatile input) result step
+      acted_as result follows =
+          let roomy = step-of-node held.node cluster site.centre facts volatile is.node input in
+          let gives = follows.answer cluster site.centre facts volatile is.node.itself in
+          let left = follows.left cluster site.centre facts volatile is.node.itself in
+          acted_by (step_of (here cluster site.centre facts) volatile input) refl result
+          (subst (λ (r : Result NodeStep StepFault). GivesUnless is_step_memory (unless_refused result step) (step_result r)) roomy gives)
+          (subst (λ (r : Result NodeStep StepFault). UnlessMemory (unless_refused result step) (RepresentsAfter are_stored after cluster site.centre facts volatile r)) roomy left)

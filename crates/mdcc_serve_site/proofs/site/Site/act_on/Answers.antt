@@ -15,4 +15,4 @@ returns-clause-acted c cluster site is =
       fact_counts = c.well_formed_facts_have_counts.ensures;
       message_counts = c.well_formed_messages_have_counts.ensures;
     } in
-    acted_as laws cluster c.args.self.now site is c.args.input.now c.requires.input c.act_on.new.self c.act_on.new.step c.act_on.result c.act_on.ensures.follows c.act_on.ensures.spent
+    acted_as laws cluster c.args.self.now site is c.args.input.now c.requires.input c.act_on.new.self c.act_on.ensures.cells c.act_on.new.step c.act_on.result c.act_on.ensures.follows

@@ -16,4 +16,4 @@ returns-clause-acted c cluster site is =
       fact_counts = c.well_formed_facts_have_counts.ensures;
       message_counts = c.well_formed_messages_have_counts.ensures;
     } in
-    acted_as laws cluster c.args.self.now site is (Input.Message c.args.envelope.now) c.requires.input c.deliver.new.self c.deliver.new.step c.deliver.result c.deliver.ensures.follows c.deliver.ensures.spent
+    acted_as laws cluster c.args.self.now site is (Input.Message c.args.envelope.now) c.requires.input c.deliver.new.self c.deliver.ensures.cells c.deliver.new.step c.deliver.result c.deliver.ensures.follows
