@@ -3,8 +3,8 @@ use Rattle.std.proofs.Common.{◌≡◌, ℕ, ◌+◌, ◌-◌, ◌/◌, ◌%◌
 use Rattle.std.specs.List.{AllByRecursion}
 use Rattle.std.proofs.lemmas.Bool.{cases_Bool}
 use Rattle.mdcc_node_boot.specs.Boots.{BootsWithinCells}
-use Rattle.mdcc_node_boot.specs.Loading.{AreWithinFrames, Cells, HoldsFacts, boot_by, exceeds_cells, fact_in, fact_read, loaded_by, past_fault, with_next_boot}
-use Rattle.mdcc_node_log.specs.Nodes.{CentreStore, IsNodeOf, are_stored, cells_of, needed_in, spare_cells_of}
+use Rattle.mdcc_node_boot.specs.Loading.{AreWithinFrames, boot_by, exceeds_cells, fact_in, fact_read, loaded_by, past_fault, with_next_boot}
+use Rattle.mdcc_node_log.specs.Nodes.{CentreStore, IsNodeOf, are_stored, store_cells}
 use Rattle.mdcc_def_ledger.specs.BootTest.{is_allowed_fact}
 use Rattle.mdcc_def_messages.specs.Lengths.{cells_needed, fact_length}
 use Rattle.mdcc_def_messages.specs.Reading.{fact_of}
@@ -27,10 +27,8 @@ use Rattle.mdcc_def_rules.specs.declared.node.BootFault.{BootFault}
 use Rattle.mdcc_serve.specs.Starts.{GivesNoServer, GivesNode, boot_fault_of}
 use Rattle.mdcc_theorem_encoding.proofs.Lengths.{length-fact}
 use Rattle.mdcc_theorem_encoding.specs.Laws.{AreBytes, FactsHaveOneSpelling, FactsReadAreWellFormed}
+use Rattle.mdcc_theorem_node_steps.proofs.Booting.{boot-room}
 use Rattle.mdcc_theorem_node_steps.specs.NodeInvariant.{BootGivesNode, fact_payloads}
-
-pub empty_store : (store : CentreStore) (cluster : Cluster) → are_stored store [] → spare_cells_of store ≡ cluster.cells → HoldsFacts are_stored spare_cells_of needed_in (cells_of cluster) store []
-empty_store store cluster empty spare = record { list = empty; spare = omega (spare, arith); needs = λ s fact. refl; counted = refl }
 
 module _ (one : FactsHaveOneSpelling) (well : FactsReadAreWellFormed) where
   -- ---- what is read of payloads
@@ -58,7 +56,7 @@ module _ (one : FactsHaveOneSpelling) (well : FactsReadAreWellFormed) where
   each_small (p ∷ ps) bytes short = (λ fact e. read_small p bytes.0 short.0 (fact_of p) refl fact e, each_small ps bytes.1 short.1)
 
   -- what is loaded is what they spell
-  loaded_spells : (cells : Cells) (cluster : Cluster) (start all : List Fact) (n : ℕ) (ps : List (List ℕ)) → AllByRecursion AreBytes ps
+  loaded_spells : (cells : ℕ) (cluster : Cluster) (start all : List Fact) (n : ℕ) (ps : List (List ℕ)) → AllByRecursion AreBytes ps
       → loaded_by cells cluster start n (map fact_read ps) ≡ Ok all → encodings_of all ≡ encodings_of start ++ ps
   loaded_spells cells cluster start all n [] bytes e = let same : start ≡ all = cc in ap encodings_of (sym same) ∙ sym (append-nil (encodings_of start))
   loaded_spells cells cluster start all n (p ∷ ps) bytes e = by_read (λ fact rest. loaded_spells cells cluster (fact ∷ start) all (n + 1) ps bytes.1 rest) (fact_of p) refl e
@@ -78,7 +76,7 @@ module _ (one : FactsHaveOneSpelling) (well : FactsReadAreWellFormed) where
       ]
 
   -- so are the facts of a node
-  booted_spells : (cells : Cells) (cluster : Cluster) (ps : List (List ℕ)) → AllByRecursion AreBytes ps → (boot : Fact) (facts : List Fact)
+  booted_spells : (cells : ℕ) (cluster : Cluster) (ps : List (List ℕ)) → AllByRecursion AreBytes ps → (boot : Fact) (facts : List Fact)
       → boot_by cells cluster (map fact_read ps) ≡ Ok (boot ∷ facts) → (boot ≡ next_boot facts) × (ps ≡ encodings_of facts)
   booted_spells cells cluster ps bytes boot facts e = by_loaded (loaded_by cells cluster [] 0 (map fact_read ps)) refl e
     where
@@ -100,35 +98,37 @@ module _ (one : FactsHaveOneSpelling) (well : FactsReadAreWellFormed) where
       (ps : List (List ℕ)) (bytes : AllByRecursion AreBytes ps) (short : AreWithinFrames ps)
     where
       -- its cells are those of the cluster
-      protocol : boot_by (cells_of cluster) cluster (map fact_read ps) ≡ boot_of cluster (map fact_read ps)
-      protocol = within (cells_of cluster) cluster (map fact_read ps) refl (λ fact. refl) (let most = is_cluster.cells in omega (most, arith)) (each_small ps bytes short)
+      protocol : boot_by cluster.cells cluster (map fact_read ps) ≡ boot_of cluster (map fact_read ps)
+      protocol = within cluster (map fact_read ps) (let most = is_cluster.cells in omega (most, arith)) (each_small ps bytes short)
 
       -- as it is of facts that the centre may have added
       by_facts : (before : List Fact) → AreLogged cluster before → ps ≡ encodings_of before → map fact_read ps ≡ fact_payloads before
       by_facts before are is = ap (λ (qs : List (List ℕ)). map fact_read qs) is ∙ payloads-read before are.well_formed
 
-      pub gives_node : (r : Node CentreStore × Fact) → Boots are_stored spare_cells_of needed_in (cells_of cluster) (Ok r) cluster me (boot_by (cells_of cluster) cluster (map fact_read ps))
+      pub gives_node : (r : Node CentreStore × Fact) → Boots are_stored store_cells cluster.cells (Ok r) cluster me (boot_by cluster.cells cluster (map fact_read ps))
           → GivesNode cluster me ps r.0 r.1
       gives_node r h =
-          let spelled = booted_spells (cells_of cluster) cluster ps bytes r.1 h.0 h.1 in
+          let spelled = booted_spells cluster.cells cluster ps bytes r.1 h.0 h.1 in
+          let made = sym protocol ∙ h.1 in
           record {
             facts = h.0;
-            itself = subst (λ (fact : Fact). IsNodeOf r.0 cluster me (fact ∷ h.0) initial_volatile) spelled.0 (record { itself = h.2; spare = h.3.spare });
+            itself = subst (λ (fact : Fact). IsNodeOf r.0 cluster me (fact ∷ h.0) initial_volatile) spelled.0
+                (record { itself = h.2; cells = h.3.total; fits = boot-room cluster (map fact_read ps) (r.1 ∷ h.0) made });
             kept = gives cluster me (map fact_read ps) (next_boot h.0 ∷ h.0) is_cluster among (each_well ps bytes)
-                (sym protocol ∙ h.1 ∙ ap (λ (fact : Fact). let ok : Result (List Fact) BootFault = Ok (fact ∷ h.0) in ok) spelled.0);
+                (made ∙ ap (λ (fact : Fact). let ok : Result (List Fact) BootFault = Ok (fact ∷ h.0) in ok) spelled.0);
             boot_is = spelled.0;
             payloads_are = spelled.1;
             over = λ before are is.
-                let booted = (node-boots are_stored spare_cells_of needed_in (cells_of cluster) cluster me before ps is are r h).3 in
-                let read = ap (boot_by (cells_of cluster) cluster) (by_facts before are is) in
+                let booted = (node-boots are_stored store_cells cluster.cells cluster me before ps is are r h).3 in
+                let read = ap (boot_by cluster.cells cluster) (by_facts before are is) in
                 let both : Ok (r.1 ∷ h.0) ≡ Ok (next_boot before ∷ before) = sym h.1 ∙ (read ∙ booted) in
                 cc;
           }
 
-      pub gives_none : (fault : BootFault) → Boots {S = CentreStore} are_stored spare_cells_of needed_in (cells_of cluster) (Err fault) cluster me (boot_by (cells_of cluster) cluster (map fact_read ps))
+      pub gives_none : (fault : BootFault) → Boots {S = CentreStore} are_stored store_cells cluster.cells (Err fault) cluster me (boot_by cluster.cells cluster (map fact_read ps))
           → GivesNoServer cluster me ps (boot_fault_of me fault)
       gives_none BootFault.Memory h = inl refl
-      gives_none BootFault.Epochs h = inr (BootFault.Epochs, refl, λ before are is. boot-ends are_stored spare_cells_of needed_in (cells_of cluster) cluster me before ps is are BootFault.Epochs h)
-      gives_none (BootFault.NotARun n) h = inr (BootFault.NotARun n, refl, λ before are is. boot-ends are_stored spare_cells_of needed_in (cells_of cluster) cluster me before ps is are (BootFault.NotARun n) h)
+      gives_none BootFault.Epochs h = inr (BootFault.Epochs, refl, λ before are is. boot-ends are_stored store_cells cluster.cells cluster me before ps is are BootFault.Epochs h)
+      gives_none (BootFault.NotARun n) h = inr (BootFault.NotARun n, refl, λ before are is. boot-ends are_stored store_cells cluster.cells cluster me before ps is are (BootFault.NotARun n) h)
       gives_none (BootFault.Room needed all) h =
           inr (BootFault.Room needed all, refl, λ before are is. ap (boot_of cluster) (sym (by_facts before are is)) ∙ (sym protocol ∙ h))

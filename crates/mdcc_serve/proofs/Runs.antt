@@ -4,7 +4,7 @@ use Rattle.std.specs.Prelude.{is_ok}
 use Rattle.mdcc_node_boot.specs.Boots.{BootsWithinCells}
 use Rattle.mdcc_node_log.proofs.Kept.{rest_read}
 use Rattle.mdcc_node_log.specs.Logged.{AreLogged}
-use Rattle.mdcc_node_log.specs.Nodes.{CentreStore, are_stored, cells_of, facts_at_boot, needed_in, spare_cells_of}
+use Rattle.mdcc_node_log.specs.Nodes.{CentreStore, are_stored, facts_at_boot, store_cells}
 use Rattle.mdcc_node_log.specs.Payloads.{GivesNoNode, HasNoRoomForBoot, StartEnds, StartsFrom}
 use Rattle.mdcc_node_log.specs.Starting.{AreasStand, HasLogRoom, IsAsBefore, IsLogOnDisks as IsLogRead, IsRefused, IsUnread, KeepsLog, KeepsUnlessDisk}
 use Rattle.mdcc_node_log.specs.declared.fault.StartFault.{StartFault}
@@ -74,7 +74,7 @@ module _ {D : Type 0} (disk : D → ℕ → Disk) (may_leave : D → ℕ → Lis
       (alike : (disk old (centre + 16)).told ≡ (disk old centre).told) (tears : ℕ → Type 0)
     where
       abbrev Starts : Running CentreStore → Type 0
-      Starts running = StartsFrom disk may_leave centre every old new are_stored spare_cells_of needed_in (cells_of cluster) cluster running
+      Starts running = StartsFrom disk may_leave centre every old new are_stored store_cells cluster.cells cluster running
 
       -- where one area tells its bytes both did
       told_before : IsTrue (disk new centre).told → AreAreasTold disk old centre
@@ -135,7 +135,7 @@ module _ {D : Type 0} (disk : D → ℕ → Disk) (may_leave : D → ℕ → Lis
               (rested disk may_leave current_is_read new running.log centre (starts.all ++ fact_bytes starts.boot ∷ []) rest.range of rest first second left left_second)
 
   -- a node boots from its log
-  pub runs_boot : (running : Running CentreStore) → StartsFrom disk may_leave centre every old new are_stored spare_cells_of needed_in (cells_of cluster) cluster running → BootsAt disk cluster old centre
+  pub runs_boot : (running : Running CentreStore) → StartsFrom disk may_leave centre every old new are_stored store_cells cluster.cells cluster running → BootsAt disk cluster old centre
   runs_boot running starts told = node_given cluster (payloads (disk old centre).bytes (disk old (centre + 16)).bytes) starts.all (starts.boot ∷ starts.boots.0) (starts.read told.first told.second) starts.boots.1
 
   -- ---- it does not
@@ -145,8 +145,8 @@ module _ {D : Type 0} (disk : D → ℕ → Disk) (may_leave : D → ℕ → Lis
     pub passes : DiskPasses disk may_leave old new
     pub others : KeepsOthers disk may_leave centre old new
     pub refused : (facts : List Fact) → AreLogged cluster facts → IsLogRead facts (disk old centre) (disk old (centre + 16))
-        → IsRefused (cells_of cluster) cluster facts (HasLogRoom every (disk old centre) (disk old (centre + 16))) fault
-    pub over_any : StartEnds disk may_leave centre every old new are_stored spare_cells_of needed_in (cells_of cluster) cluster fault
+        → IsRefused cluster.cells cluster facts (HasLogRoom every (disk old centre) (disk old (centre + 16))) fault
+    pub over_any : StartEnds disk may_leave centre every old new are_stored store_cells cluster.cells cluster fault
     pub kept : (all : List (List ℕ)) → IsTrue (disk old centre).told → IsTrue (disk old (centre + 16)).told → Read all → KeepsLog all fault centre every disk may_leave old new
     pub unread : (n : ℕ) → IsTrue (disk old centre).told → IsTrue (disk old (centre + 16)).told → payloads (disk old centre).bytes (disk old (centre + 16)).bytes ≡ Err n → IsUnread n fault centre disk old new
     pub no_log : (n : ℕ) → fault ≡ StartFault.Log (LogFault.NotALog n) → IsTrue (disk old centre).told → IsTrue (disk old (centre + 16)).told → payloads (disk old centre).bytes (disk old (centre + 16)).bytes ≡ Err n
@@ -211,12 +211,12 @@ module _ {D : Type 0} (disk : D → ℕ → Disk) (may_leave : D → ℕ → Lis
             };
       }
 
-      none_of : (why : BootFault) (given : GivesNoNode disk may_leave centre every old new are_stored spare_cells_of needed_in (cells_of cluster) cluster why) → GivesNoServer cluster centre given.all (boot_fault_of centre why)
+      none_of : (why : BootFault) (given : GivesNoNode disk may_leave centre every old new are_stored store_cells cluster.cells cluster why) → GivesNoServer cluster centre given.all (boot_fault_of centre why)
       none_of why given = gives_none one well within gives cluster is_cluster centre among given.all given.opened.bytes given.opened.short why given.boots
 
       -- ---- its boot has no room
 
-      full_fails : HasNoRoomForBoot disk may_leave centre every old new are_stored spare_cells_of needed_in (cells_of cluster) cluster → Ends tears (StartFault.Log LogFault.LogFull)
+      full_fails : HasNoRoomForBoot disk may_leave centre every old new are_stored store_cells cluster.cells cluster → Ends tears (StartFault.Log LogFault.LogFull)
           → FailsToStart disk may_leave every tears cluster centre (ServeFault.Log centre LogFault.LogFull) old new
       full_fails lacks e = record {
         of = tt;
@@ -309,7 +309,7 @@ module _ {D : Type 0} (disk : D → ℕ → Disk) (may_leave : D → ℕ → Lis
       → AreAreasTold disk old centre → node_booted_at disk cluster old centre ≡ Err (LogRefusal.NoNode why)
   none_says why all read is told = node_read cluster (payloads (disk old centre).bytes (disk old (centre + 16)).bytes) all (read told.first told.second) ∙ ap node_of is
 
-  pub says : (fault : StartFault) → StartEnds disk may_leave centre every old new are_stored spare_cells_of needed_in (cells_of cluster) cluster fault
+  pub says : (fault : StartFault) → StartEnds disk may_leave centre every old new are_stored store_cells cluster.cells cluster fault
       → ((n : ℕ) → fault ≡ StartFault.Log (LogFault.NotALog n) → IsTrue (disk old centre).told → IsTrue (disk old (centre + 16)).told → payloads (disk old centre).bytes (disk old (centre + 16)).bytes ≡ Err n)
       → (fault ≡ StartFault.Log LogFault.Memory → ⊥) → (fault ≡ StartFault.Boot BootFault.Memory → ⊥) → SaysAt disk cluster old centre (start_fault_of centre fault)
   says (StartFault.Log LogFault.DiskFault) over no_log no_log_memory no_boot_memory = refl
