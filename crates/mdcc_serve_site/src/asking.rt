@@ -91,7 +91,7 @@ fn begin_told(centre: Centre, serial: u32, answer: Option<Answer>) -> Option<Env
 
 // What the client is told where its transaction was begun before.
 fn known_told(tx: TxId, ended: Option<bool>) -> ClientAnswer
-    ensures { result ≡ known_told tx end_of_begun }
+    ensures { result ≡ known_told tx ended }
 {
     match ended {
         None => ClientAnswer::Begun(tx),
