@@ -1,6 +1,7 @@
 -- What is seen of the disks, the link and the output of a process that is killed.
-use Rattle.std.specs.Prelude.{List, None, Option, get_or, suc, zero, ℕ, ◌+◌, ◌≡◌, ◌≢◌, ◌≤◌}
+use Rattle.std.specs.Prelude.{IsErr, List, None, Option, Result, get_or, suc, zero, ℕ, ◌+◌, ◌≡◌, ◌≢◌, ◌≤◌}
 use Rattle.mdcc_base.specs.Scripts.{one_more}
+use Rattle.mdcc_base.specs.declared.faults.Failed.{Failed}
 use Rattle.mdcc_disks.specs.Disks.{Disk}
 use Rattle.mdcc_killed_process.specs.declared.disks.KilledDisks.{KilledDisks}
 use Rattle.mdcc_killed_process.specs.declared.link.KilledLink.{KilledLink}
@@ -36,11 +37,35 @@ disk_of_killed disk killed p =
 abbrev pub may_leave_of_killed : {D : Type 0} → (D → ℕ → List ℕ → Type 0) → KilledDisks D → ℕ → List ℕ → Type 0
 may_leave_of_killed may_leave killed = may_leave killed.disks
 
+abbrev pub moment_of_killed : {D : Type 0} → (D → ℕ) → KilledDisks D → ℕ
+moment_of_killed moment killed = moment killed.disks
+
+abbrev pub left_since_of_killed : {D : Type 0} → (D → ℕ → ℕ → List ℕ → Type 0) → KilledDisks D → ℕ → ℕ → List ℕ → Type 0
+left_since_of_killed left_since killed = left_since killed.disks
+
 abbrev pub calls_of_killed : {L : Type 0} → (L → Option (List LinkCall)) → KilledLink L → Option (List LinkCall)
 calls_of_killed calls killed = calls_told (killed.unsent + killed.missed) (calls killed.link)
 
 abbrev pub lost_of_killed : {L : Type 0} → (L → ℕ) → KilledLink L → ℕ
 lost_of_killed lost killed = lost killed.link + killed.unsent
 
+abbrev pub faults_of_killed : {L : Type 0} → (L → ℕ) → KilledLink L → ℕ
+faults_of_killed faults killed = faults killed.link + killed.missed
+
 abbrev pub held_of_killed : {O : Type 0} → (O → Option (List ℕ)) → KilledOutput O → Option (List ℕ)
 held_of_killed held killed = held killed.output
+
+-- ---- after the kill
+
+-- A call is not made: it fails, and the disks are as they were.
+pub record ReachesNoDisk {D T : Type 0} (old new : KilledDisks D) (result : Result T Failed) : Type 0 where
+  pub fails : IsErr result
+  pub disks : new.disks ≡ old.disks
+
+pub record ReachesNoLink {L T : Type 0} (old new : KilledLink L) (result : Result T Failed) : Type 0 where
+  pub fails : IsErr result
+  pub link : new.link ≡ old.link
+
+pub record ReachesNoOutput {O T : Type 0} (old new : KilledOutput O) (result : Result T Failed) : Type 0 where
+  pub fails : IsErr result
+  pub output : new.output ≡ old.output

@@ -1,6 +1,8 @@
 //! Disks that a killed process does not reach any more.
-ghost use Rattle.std.specs.Prelude.{◌≡◌, true, false, replicate};
-ghost use Rattle.mdcc_killed_process.specs.Killed.{IsMissedAt, disk_of_killed, may_leave_of_killed};
+ghost use Rattle.std.specs.Prelude.{◌≡◌, ◌<◌, ◌≤◌, true, false, drop, length, replicate, take, IfOk, IsTrue, OnOk};
+ghost use Rattle.mdcc_disks.specs.Disks.{IsCall, IsCut, IsOverwritten, IsTorn, Only, OutcomesFollow, Within};
+ghost use Rattle.mdcc_disks.specs.Disks.DiskCall.{Cut, Length, Read, Sync, Write};
+ghost use Rattle.mdcc_killed_process.specs.Killed.{IsMissedAt, ReachesNoDisk, disk_of_killed, left_since_of_killed, may_leave_of_killed, moment_of_killed};
 
 use mdcc_base::Failed;
 use mdcc_disks::Disks;
@@ -32,6 +34,7 @@ impl<D: Disks> KilledDisks<D> {
 
     // Whether one more call is made. One that is not made is counted.
     fn reaches(&mut self, place: u8) -> bool
+        ensures once { self.old.left ≡ 0 → result ≡ false }
         ensures reached { result ≡ true → (self.new.disks ≡ self.old.disks) × (self.new.missed ≡ self.old.missed) }
         ensures killed { result ≡ false → (self.new.disks ≡ self.old.disks) × IsMissedAt place self.old.missed self.new.missed }
     {
@@ -51,9 +54,9 @@ impl<D: Disks> Disks for KilledDisks<D> {
 
     ghost tears = { D.tears };
 
-    ghost moment = { λ killed. D.moment killed.disks };
+    ghost moment = { moment_of_killed D.moment };
 
-    ghost left_since = { λ killed. D.left_since killed.disks };
+    ghost left_since = { left_since_of_killed D.left_since };
 
     ghost counts_now = { λ killed p t c. D.counts_now killed.disks p t c };
 
@@ -61,35 +64,76 @@ impl<D: Disks> Disks for KilledDisks<D> {
 
     ghost as_read = { λ killed p. D.as_read killed.disks p };
 
-    fn length(&mut self, place: u8) -> Result<u64, Failed> {
+    fn length(&mut self, place: u8) -> Result<u64, Failed>
+        ensures answer { IsTrue (disk_of_killed D.disk self.old place).told → IfOk result (λ n. n ≡ length (disk_of_killed D.disk self.old place).bytes) }
+        ensures bytes { (disk_of_killed D.disk self.new place).bytes ≡ (disk_of_killed D.disk self.old place).bytes }
+        ensures crash { Within (may_leave_of_killed D.may_leave self.old place) (may_leave_of_killed D.may_leave self.new place) }
+        ensures call { IsCall (disk_of_killed D.disk) (may_leave_of_killed D.may_leave) (moment_of_killed D.moment) (left_since_of_killed D.left_since)
+            self.old self.new place Length result }
+        ensures killed { self.old.left ≡ 0 → ReachesNoDisk self.old self.new result }
+    {
         if !self.reaches(place) {
             return Err(Failed);
         }
         self.disks.length(place)
     }
 
-    fn read(&mut self, place: u8, offset: u64, into: &mut [u8]) -> Result<usize, Failed> {
+    fn read(&mut self, place: u8, offset: u64, into: &mut [u8]) -> Result<usize, Failed>
+        requires { IsTrue (disk_of_killed D.disk self.old place).told → offset < length (disk_of_killed D.disk self.old place).bytes }
+        ensures bound { IfOk result (λ n. n ≤ length into.new) }
+        ensures some { 0 < length into.new → IfOk result (λ n. 0 < n) }
+        ensures answer { IsTrue (disk_of_killed D.disk self.old place).told → IfOk result (λ n. take n into.new ≡ take n (drop offset (disk_of_killed D.disk self.old place).bytes)) }
+        ensures bytes { (disk_of_killed D.disk self.new place).bytes ≡ (disk_of_killed D.disk self.old place).bytes }
+        ensures crash { Within (may_leave_of_killed D.may_leave self.old place) (may_leave_of_killed D.may_leave self.new place) }
+        ensures call { IsCall (disk_of_killed D.disk) (may_leave_of_killed D.may_leave) (moment_of_killed D.moment) (left_since_of_killed D.left_since)
+            self.old self.new place (Read offset (length into.new)) result }
+        ensures killed { self.old.left ≡ 0 → ReachesNoDisk self.old self.new result }
+    {
         if !self.reaches(place) {
             return Err(Failed);
         }
         self.disks.read(place, offset, into)
     }
 
-    fn write_at(&mut self, place: u8, offset: u64, bytes: &[u8]) -> Result<(), Failed> {
+    fn write_at(&mut self, place: u8, offset: u64, bytes: &[u8]) -> Result<(), Failed>
+        requires { IsTrue (disk_of_killed D.disk self.old place).told → offset ≤ length (disk_of_killed D.disk self.old place).bytes }
+        ensures written { IsTrue (disk_of_killed D.disk self.old place).told
+            → OnOk result (IsOverwritten (disk_of_killed D.disk self.old place).bytes offset bytes.now (disk_of_killed D.disk self.new place).bytes) }
+        ensures crash { OutcomesFollow (IsTorn D.tears offset bytes.now) (may_leave_of_killed D.may_leave self.old place) (may_leave_of_killed D.may_leave self.new place) }
+        ensures call { IsCall (disk_of_killed D.disk) (may_leave_of_killed D.may_leave) (moment_of_killed D.moment) (left_since_of_killed D.left_since)
+            self.old self.new place (Write offset bytes.now) result }
+        ensures killed { self.old.left ≡ 0 → ReachesNoDisk self.old self.new result }
+    {
         if !self.reaches(place) {
             return Err(Failed);
         }
         self.disks.write_at(place, offset, bytes)
     }
 
-    fn cut(&mut self, place: u8, size: u64) -> Result<(), Failed> {
+    fn cut(&mut self, place: u8, size: u64) -> Result<(), Failed>
+        requires { IsTrue (disk_of_killed D.disk self.old place).told → size ≤ length (disk_of_killed D.disk self.old place).bytes }
+        ensures cut { IsTrue (disk_of_killed D.disk self.old place).told
+            → OnOk result ((disk_of_killed D.disk self.new place).bytes ≡ take size (disk_of_killed D.disk self.old place).bytes) }
+        ensures crash { OutcomesFollow (IsCut size) (may_leave_of_killed D.may_leave self.old place) (may_leave_of_killed D.may_leave self.new place) }
+        ensures call { IsCall (disk_of_killed D.disk) (may_leave_of_killed D.may_leave) (moment_of_killed D.moment) (left_since_of_killed D.left_since)
+            self.old self.new place (Cut size) result }
+        ensures killed { self.old.left ≡ 0 → ReachesNoDisk self.old self.new result }
+    {
         if !self.reaches(place) {
             return Err(Failed);
         }
         self.disks.cut(place, size)
     }
 
-    fn sync(&mut self, place: u8) -> Result<(), Failed> {
+    fn sync(&mut self, place: u8) -> Result<(), Failed>
+        ensures durable { IsTrue (disk_of_killed D.disk self.old place).told
+            → OnOk result (Only (disk_of_killed D.disk self.old place).bytes (may_leave_of_killed D.may_leave self.new place)) }
+        ensures bytes { (disk_of_killed D.disk self.new place).bytes ≡ (disk_of_killed D.disk self.old place).bytes }
+        ensures crash { Within (may_leave_of_killed D.may_leave self.old place) (may_leave_of_killed D.may_leave self.new place) }
+        ensures call { IsCall (disk_of_killed D.disk) (may_leave_of_killed D.may_leave) (moment_of_killed D.moment) (left_since_of_killed D.left_since)
+            self.old self.new place Sync result }
+        ensures killed { self.old.left ≡ 0 → ReachesNoDisk self.old self.new result }
+    {
         if !self.reaches(place) {
             return Err(Failed);
         }

@@ -1,6 +1,9 @@
 //! An output that a killed process does not reach any more.
-ghost use Rattle.std.specs.Prelude.{◌≡◌, ◌+◌};
-ghost use Rattle.mdcc_killed_process.specs.Killed.{held_of_killed};
+ghost use Rattle.std.specs.Prelude.{◌≡◌, ◌+◌, ◌<◌, length, IfOk};
+ghost use Rattle.std.specs.Io.{WritesAtMost};
+ghost use Rattle.std.specs.Io.KnownBytes.{WriteAppends};
+ghost use Rattle.mdcc_base.specs.Causes.{HasCause};
+ghost use Rattle.mdcc_killed_process.specs.Killed.{ReachesNoOutput, held_of_killed};
 
 use mdcc_base::{Failed, Sink};
 
@@ -34,7 +37,13 @@ impl<O: Sink> Sink for KilledOutput<O> {
 
     ghost faults = { λ killed. O.faults killed.output + killed.missed };
 
-    fn write(&mut self, from: &[u8]) -> Result<usize, Failed> {
+    fn write(&mut self, from: &[u8]) -> Result<usize, Failed>
+        ensures bound { WritesAtMost result from.now }
+        ensures some { 0 < length from.now → IfOk result (λ n. 0 < n) }
+        ensures bytes { WriteAppends (held_of_killed O.held self.old) (held_of_killed O.held self.new) result from.now }
+        ensures cause { HasCause (O.faults self.old.output + self.old.missed) (O.faults self.new.output + self.new.missed) result }
+        ensures killed { self.old.left ≡ 0 → ReachesNoOutput self.old self.new result }
+    {
         if self.left == 0 {
             self.missed = self.missed.saturating_add(1);
             return Err(Failed);
