@@ -7,3 +7,5 @@ mod audits;
 mod histories;
 #[cfg(test)]
 mod rows;
+#[cfg(test)]
+mod written;
