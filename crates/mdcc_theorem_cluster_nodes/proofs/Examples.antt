@@ -25,7 +25,7 @@ use Rattle.mdcc_theorem_clusters.specs.Crash.{proposal_to, three_centres}
 use Rattle.mdcc_theorem_clusters.specs.ExecutionTest.{may_receive_asked, was_sent}
 use Rattle.mdcc_theorem_clusters.specs.Traces.{GivesBytes, MayDoNext, MayReceive}
 use Rattle.mdcc_theorem_node_steps.specs.NodeInvariant.{fact_payloads}
-use Rattle.mdcc_theorem_cluster_nodes.proofs.Called.{DidOver, called-by}
+use Rattle.mdcc_theorem_cluster_nodes.proofs.KnownLogs.{DidOver, called-by}
 use Rattle.mdcc_theorem_cluster_nodes.specs.Areas.{Areas}
 use Rattle.mdcc_theorem_cluster_nodes.specs.Calls.{Setting}
 use Rattle.mdcc_theorem_cluster_nodes.specs.Clusters.{AreCalls, Cluster, ClusterStep, IsCalled, IsKilled, acts_left_of, after_cluster_step, after_cluster_steps}

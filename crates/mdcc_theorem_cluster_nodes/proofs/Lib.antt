@@ -1,9 +1,9 @@
-pub mod Called
 pub mod Calls
 pub mod Centres
 pub mod Clusters
 pub mod Ends
 pub mod Examples
+pub mod KnownLogs
 pub mod Refused
 pub mod Several
 pub mod Single
