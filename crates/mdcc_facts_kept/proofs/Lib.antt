@@ -1,0 +1,13 @@
+pub mod Asked
+pub mod Compacted
+pub mod Drops
+pub mod FloorsSet
+pub mod Gathered
+pub mod More
+pub mod Ranks
+pub mod Shown
+pub mod Through
+pub mod Unfinished
+pub mod WithoutFloors
+pub mod VoidLeft
+pub mod WhatIsLeft

@@ -1,0 +1,7 @@
+use Rattle.std.proofs.Common.{◌∙◌}
+use Rattle.mdcc_given_back.specs.Counted.{without_floors}
+use Rattle.mdcc_facts_kept.proofs.Asked.{current_asked}
+use Rattle.mdcc_facts_kept.proofs.kept_facts.KeptFacts.current.Goals as goal
+
+pub returns : goal.returns
+returns c facts kept = c.current.ensures (without_floors kept.rest) (c.rest.ensures.rest facts kept) ∙ current_asked c.args.self.now facts kept c.args.key.now

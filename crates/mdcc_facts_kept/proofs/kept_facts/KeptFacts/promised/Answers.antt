@@ -1,0 +1,7 @@
+use Rattle.std.proofs.Common.{◌∙◌}
+use Rattle.mdcc_given_back.specs.Counted.{without_floors}
+use Rattle.mdcc_facts_kept.proofs.Asked.{range_asked}
+use Rattle.mdcc_facts_kept.proofs.kept_facts.KeptFacts.promised.Goals as goal
+
+pub returns : goal.returns
+returns c facts kept = c.promised.ensures (without_floors kept.rest) (c.rest.ensures.rest facts kept) ∙ range_asked c.args.self.now facts kept c.args.key.now c.args.version c.args.ballot

@@ -1,0 +1,4 @@
+pub mod Exact
+pub mod Sound
+pub mod Steps
+pub mod Writing
