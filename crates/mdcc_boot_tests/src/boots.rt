@@ -2,6 +2,7 @@
 use crate::setup::{BOOTED, FLOOR, HEARD, PROMISED, five_centres};
 use mdcc_base::{Centre, HeapList};
 use mdcc_def_messages::Fact;
+use mdcc_facts::FactStore;
 use mdcc_index::PoolFacts;
 use mdcc_node::{BootFault, Node};
 use mdcc_node_boot::loading::are_short;
@@ -32,15 +33,13 @@ fn epoch_in(fact: &Fact) -> u32 {
     }
 }
 
-// The epoch of the node that is booted over an empty store of so many cells, where its fact is the boot of that epoch, or why
-// there is none.
-fn booted_within(
+// The epoch of the node that is booted over an empty store, where its fact is the boot of that epoch, or why there is none.
+fn booted_over<S: FactStore + Drop>(
     rt: &impl Abort,
     alloc: Global,
-    cells: u32,
+    store: S,
     payloads: &[&[u8]],
 ) -> Result<Result<u32, BootFault>, Fail> {
-    let store = PoolFacts::new(alloc, cells).ok().ok_or("a store")?;
     let cluster = five_centres(rt);
     let centre = Centre::new(1).unwrap_or_default();
     let kept = logged(alloc, payloads)?;
@@ -58,6 +57,17 @@ fn booted_within(
         }
         Err(fault) => Ok(Err(fault)),
     }
+}
+
+// Over a store of so many cells.
+fn booted_within(
+    rt: &impl Abort,
+    alloc: Global,
+    cells: u32,
+    payloads: &[&[u8]],
+) -> Result<Result<u32, BootFault>, Fail> {
+    let store = PoolFacts::new(alloc, cells).ok().ok_or("a store")?;
+    booted_over(rt, alloc, store, payloads)
 }
 
 // Over a store in which they do not lack.

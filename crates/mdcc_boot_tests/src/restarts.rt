@@ -4,6 +4,7 @@ ghost use Rattle.std.specs.Prelude.{length, ◌≤◌};
 use crate::setup::{BOOTED, HEARD, PROMISED, five_centres};
 use mdcc_base::{Centre, Image};
 use mdcc_disks::MemoryDisks;
+use mdcc_facts::FactStore;
 use mdcc_index::PoolFacts;
 use mdcc_log::{Frames, LogFault};
 use mdcc_node_boot::parts_belong::is_centre;
@@ -41,18 +42,17 @@ fn append(alloc: Global, disks: &mut MemoryDisks, payload: &[u8]) -> Result<(), 
     log.append(disks, payload)
 }
 
-// The epoch of the centre that starts over the disks and an empty store of so many cells, where its node is of that epoch, or why
-// none starts. A checkpoint is due after so many frames.
-fn restarted_over(
+// The epoch of the centre that starts over the disks and an empty store, where its node is of that epoch, or why none starts. A
+// checkpoint is due after so many frames.
+fn restarted_with<S: FactStore + Drop>(
     rt: &impl Abort,
     alloc: Global,
-    cells: u32,
+    store: S,
     disks: &mut MemoryDisks,
     every: u32,
 ) -> Result<Result<u32, StartFault>, Fail>
     requires { 1 ≤ every }
 {
-    let store = PoolFacts::new(alloc, cells).ok().ok_or("a store")?;
     let cluster = five_centres(rt);
     let centre = Centre::new(1).unwrap_or_default();
     if !is_centre(&cluster, centre.number()) {
@@ -69,6 +69,20 @@ fn restarted_over(
         }
         Err(fault) => Ok(Err(fault)),
     }
+}
+
+// Over a store of so many cells.
+fn restarted_over(
+    rt: &impl Abort,
+    alloc: Global,
+    cells: u32,
+    disks: &mut MemoryDisks,
+    every: u32,
+) -> Result<Result<u32, StartFault>, Fail>
+    requires { 1 ≤ every }
+{
+    let store = PoolFacts::new(alloc, cells).ok().ok_or("a store")?;
+    restarted_with(rt, alloc, store, disks, every)
 }
 
 fn restarted(
