@@ -2,7 +2,7 @@
 use crate::values::{LED, centre, choice, cluster, decrease, holding, insert, item, key, six, tx};
 use mdcc_base::{Ballot, BoundedList, Plain, Quorums, TxId};
 use mdcc_def_protocol::{LeadAnswer, Promise, PromiseAnswer};
-use mdcc_index::PoolFacts;
+use mdcc_facts::FactStore;
 use mdcc_leader::Leader;
 use mdcc_option::{Choice, Claim, Cluster, FastLimit, Mark, Update};
 use mdcc_struct::Options;
@@ -85,9 +85,9 @@ fn is_accepted(options: &Options, tx: TxId) -> Option<bool> {
 }
 
 // A centre of the cluster promises.
-fn promised(
+fn promised<S: FactStore>(
     leader: &mut Leader,
-    store: &PoolFacts,
+    store: &S,
     cluster: &Cluster,
     number: u8,
     promise: &Promise,
@@ -114,9 +114,9 @@ fn are_marked(options: &Options, first: bool) -> bool {
 }
 
 // The structure that is sent once a centre promises.
-fn structure(
+fn structure<S: FactStore>(
     leader: &mut Leader,
-    store: &PoolFacts,
+    store: &S,
     cluster: &Cluster,
     number: u8,
     promise: &Promise,
@@ -132,10 +132,10 @@ fn structure(
 }
 
 // A leader that asked for promises on a version, for a claim of it.
-fn asking(
+fn asking<S: FactStore>(
     rt: &impl Abort,
     alloc: Global,
-    store: &PoolFacts,
+    store: &S,
     cluster: &Cluster,
     claim: &Claim,
 ) -> Result<Leader, Fail> {
@@ -157,31 +157,32 @@ fn asking(
 // Two of the first three centres voted the first insert: it is kept, and the other rejected.
 #[test]
 fn the_first_three_force_the_first_insert(rt: HostRuntime) -> Result<(), Fail> {
+    the_first_three_force_the_first_insert_over(&rt, rt.alloc(), no_facts(rt.alloc())?)
+}
+
+fn the_first_three_force_the_first_insert_over<S: FactStore + Drop>(
+    rt: &impl Abort,
+    alloc: Global,
+    store: S,
+) -> Result<(), Fail> {
     let cluster = cluster()?;
-    let store = no_facts(rt.alloc())?;
-    let mut leader = asking(
-        &rt,
-        rt.alloc(),
-        &store,
-        &cluster,
-        &claim_of(&other_insert()),
-    )?;
-    let first = promise(0, 100, first_won(rt.alloc())?);
+    let mut leader = asking(rt, alloc, &store, &cluster, &claim_of(&other_insert()))?;
+    let first = promise(0, 100, first_won(alloc)?);
     let answer = promised(&mut leader, &store, &cluster, 1, &first)?;
     assert!(rt; is_waiting(&answer, 1));
     let answer = promised(&mut leader, &store, &cluster, 1, &first)?;
     assert!(rt; matches!(answer, PromiseAnswer::Ignored));
     let answer = promised(&mut leader, &store, &cluster, 2, &first)?;
     assert!(rt; is_waiting(&answer, 2));
-    force_the_first(&rt, rt.alloc(), &mut leader, &store, &cluster)
+    force_the_first(rt, alloc, &mut leader, &store, &cluster)
 }
 
 // The third centre promises, and after the structure the fourth.
-fn force_the_first(
+fn force_the_first<S: FactStore>(
     rt: &impl Abort,
     alloc: Global,
     leader: &mut Leader,
-    store: &PoolFacts,
+    store: &S,
     cluster: &Cluster,
 ) -> Result<(), Fail> {
     let second = promise(0, 100, second_won(alloc)?);
@@ -208,10 +209,10 @@ fn accepting(alloc: Global, first: u32, second: u32, amount: i64) -> Result<Opti
 }
 
 // Each of three centres promises and has two of three decreases: the answer is to the third.
-fn third(
+fn third<S: FactStore>(
     alloc: Global,
     leader: &mut Leader,
-    store: &PoolFacts,
+    store: &S,
     cluster: &Cluster,
     amount: i64,
 ) -> Result<PromiseAnswer, Fail> {
@@ -238,10 +239,18 @@ fn all_accept(answer: &PromiseAnswer, count: usize) -> bool {
 // Three decreases of 3 from 10, of which each of three centres accepted two: all are kept.
 #[test]
 fn joint_decreases_are_all_kept(rt: HostRuntime) -> Result<(), Fail> {
+    joint_decreases_are_all_kept_over(&rt, rt.alloc(), no_facts(rt.alloc())?)
+}
+
+fn joint_decreases_are_all_kept_over<S: FactStore + Drop>(
+    rt: &impl Abort,
+    alloc: Global,
+    store: S,
+) -> Result<(), Fail> {
     let cluster = cluster()?;
-    let store = holding(rt.alloc(), vec![in rt.alloc(); insert()]?)?;
-    let mut leader = asking(&rt, rt.alloc(), &store, &cluster, &claim_of(&add_of(2, -3)))?;
-    let answer = third(rt.alloc(), &mut leader, &store, &cluster, -3)?;
+    let store = holding(alloc, store, vec![in alloc; insert()]?)?;
+    let mut leader = asking(rt, alloc, &store, &cluster, &claim_of(&add_of(2, -3)))?;
+    let answer = third(alloc, &mut leader, &store, &cluster, -3)?;
     assert!(rt; all_accept(&answer, 3));
     Ok(())
 }
@@ -257,15 +266,23 @@ fn are_first_two(options: &Options) -> bool {
 // for a fourth promise. Of the four no decrease has three votes, and the last in order is rejected.
 #[test]
 fn promises_that_do_not_fit_are_not_enough(rt: HostRuntime) -> Result<(), Fail> {
+    promises_that_do_not_fit_are_not_enough_over(&rt, rt.alloc(), no_facts(rt.alloc())?)
+}
+
+fn promises_that_do_not_fit_are_not_enough_over<S: FactStore + Drop>(
+    rt: &impl Abort,
+    alloc: Global,
+    store: S,
+) -> Result<(), Fail> {
     let cluster = Cluster {
         limit: FastLimit::Paper,
         ..cluster()?
     };
-    let store = holding(rt.alloc(), vec![in rt.alloc(); insert()]?)?;
-    let mut leader = asking(&rt, rt.alloc(), &store, &cluster, &claim_of(&add_of(2, -4)))?;
-    let answer = third(rt.alloc(), &mut leader, &store, &cluster, -4)?;
+    let store = holding(alloc, store, vec![in alloc; insert()]?)?;
+    let mut leader = asking(rt, alloc, &store, &cluster, &claim_of(&add_of(2, -4)))?;
+    let answer = third(alloc, &mut leader, &store, &cluster, -4)?;
     assert!(rt; is_waiting(&answer, 3));
-    let fourth = promise(1, 101, Options::new(rt.alloc())?);
+    let fourth = promise(1, 101, Options::new(alloc)?);
     let options = structure(&mut leader, &store, &cluster, 4, &fourth)?;
     assert!(rt; are_first_two(&options));
     Ok(())
@@ -275,13 +292,21 @@ fn promises_that_do_not_fit_are_not_enough(rt: HostRuntime) -> Result<(), Fail> 
 // where 4 was taken before.
 #[test]
 fn executed_deltas_count_beside_forced_marks(rt: HostRuntime) -> Result<(), Fail> {
+    executed_deltas_count_beside_forced_marks_over(&rt, rt.alloc(), no_facts(rt.alloc())?)
+}
+
+fn executed_deltas_count_beside_forced_marks_over<S: FactStore + Drop>(
+    rt: &impl Abort,
+    alloc: Global,
+    store: S,
+) -> Result<(), Fail> {
     let cluster = Cluster {
         limit: FastLimit::Paper,
         ..cluster()?
     };
-    let store = holding(rt.alloc(), vec![in rt.alloc(); insert(), decrease(5)]?)?;
-    let mut leader = asking(&rt, rt.alloc(), &store, &cluster, &claim_of(&add_of(2, -3)))?;
-    let answer = third(rt.alloc(), &mut leader, &store, &cluster, -3)?;
+    let store = holding(alloc, store, vec![in alloc; insert(), decrease(5)]?)?;
+    let mut leader = asking(rt, alloc, &store, &cluster, &claim_of(&add_of(2, -3)))?;
+    let answer = third(alloc, &mut leader, &store, &cluster, -3)?;
     assert!(rt; is_waiting(&answer, 3));
     Ok(())
 }
@@ -289,10 +314,18 @@ fn executed_deltas_count_beside_forced_marks(rt: HostRuntime) -> Result<(), Fail
 // A claim whose transaction was heard is left out, of the first structure and of one that stands.
 #[test]
 fn a_heard_claim_is_left_out(rt: HostRuntime) -> Result<(), Fail> {
+    a_heard_claim_is_left_out_over(&rt, rt.alloc(), no_facts(rt.alloc())?)
+}
+
+fn a_heard_claim_is_left_out_over<S: FactStore + Drop>(
+    rt: &impl Abort,
+    alloc: Global,
+    store: S,
+) -> Result<(), Fail> {
     let cluster = single()?;
-    let store = six(rt.alloc())?;
-    let mut leader = asking(&rt, rt.alloc(), &store, &cluster, &claim_of(&decrease(2)))?;
-    let none = Options::new(rt.alloc())?;
+    let store = six(alloc, store)?;
+    let mut leader = asking(rt, alloc, &store, &cluster, &claim_of(&decrease(2)))?;
+    let none = Options::new(alloc)?;
     let options = structure(&mut leader, &store, &cluster, 1, &promise(1, 101, none))?;
     assert!(rt; options.is_empty());
     let answer = leader.lead(&store, &cluster, &claim_of(&decrease(2)))?;
@@ -313,12 +346,19 @@ fn single() -> Result<Cluster, Fail> {
 // A claim whose choice nobody gave is rejected, and one that is forced keeps its choice.
 #[test]
 fn a_claim_without_a_choice_is_rejected(rt: HostRuntime) -> Result<(), Fail> {
+    a_claim_without_a_choice_is_rejected_over(&rt, rt.alloc(), no_facts(rt.alloc())?)
+}
+
+fn a_claim_without_a_choice_is_rejected_over<S: FactStore + Drop>(
+    rt: &impl Abort,
+    alloc: Global,
+    store: S,
+) -> Result<(), Fail> {
     let cluster = single()?;
-    let store = no_facts(rt.alloc())?;
-    let mut leader = asking(&rt, rt.alloc(), &store, &cluster, &claim(tx(1), 0, None))?;
+    let mut leader = asking(rt, alloc, &store, &cluster, &claim(tx(1), 0, None))?;
     let again = leader.lead(&store, &cluster, &claim(tx(2), 0, None))?;
     assert!(rt; matches!(again, LeadAnswer::Prepare { .. }));
-    let mut votes = Options::new(rt.alloc())?;
+    let mut votes = Options::new(alloc)?;
     votes.insert(tx(1), Mark::Accept(insert()))?;
     let options = structure(&mut leader, &store, &cluster, 1, &promise(0, 100, votes))?;
     assert!(rt; are_marked(&options, true));
@@ -334,18 +374,26 @@ fn write(seq: u32, version: u64) -> Choice {
 // again, in the next round.
 #[test]
 fn a_range_ends(rt: HostRuntime) -> Result<(), Fail> {
+    a_range_ends_over(&rt, rt.alloc(), no_facts(rt.alloc())?)
+}
+
+fn a_range_ends_over<S: FactStore + Drop>(
+    rt: &impl Abort,
+    alloc: Global,
+    store: S,
+) -> Result<(), Fail> {
     let cluster = Cluster {
         gamma: 2,
         ..single()?
     };
-    let written = vec![in rt.alloc(); insert(), write(2, 1), write(3, 2), write(4, 3)]?;
-    let store = holding(rt.alloc(), written)?;
-    let mut leader = leader(rt.alloc())?;
+    let written = vec![in alloc; insert(), write(2, 1), write(3, 2), write(4, 3)]?;
+    let store = holding(alloc, store, written)?;
+    let mut leader = leader(alloc)?;
     let asked = leader.lead(&store, &cluster, &claim(tx(5), 1, None))?;
     assert!(rt; is_asked(&asked, 1, 3));
-    let none = Options::new(rt.alloc())?;
+    let none = Options::new(alloc)?;
     let _made = structure(&mut leader, &store, &cluster, 1, &promise(1, 3, none))?;
-    lead_to_the_end(&rt, &mut leader, &store, &cluster)
+    lead_to_the_end(rt, &mut leader, &store, &cluster)
 }
 
 // Whether promises are asked for from this version through that one.
@@ -373,10 +421,10 @@ fn is_sent(answer: &LeadAnswer, at: u64) -> bool {
 }
 
 // The last version of the range, the one after it, and one that is not held.
-fn lead_to_the_end(
+fn lead_to_the_end<S: FactStore>(
     rt: &impl Abort,
     leader: &mut Leader,
-    store: &PoolFacts,
+    store: &S,
     cluster: &Cluster,
 ) -> Result<(), Fail> {
     let later = leader.lead(store, cluster, &claim(tx(6), 3, None))?;
@@ -403,16 +451,23 @@ fn is_in_round(answer: &LeadAnswer, round: u32) -> bool {
 // A refused lead is given up, and the next one is above the round that was promised.
 #[test]
 fn a_refused_lead_is_led_anew(rt: HostRuntime) -> Result<(), Fail> {
+    a_refused_lead_is_led_anew_over(&rt, rt.alloc(), no_facts(rt.alloc())?)
+}
+
+fn a_refused_lead_is_led_anew_over<S: FactStore + Drop>(
+    rt: &impl Abort,
+    alloc: Global,
+    store: S,
+) -> Result<(), Fail> {
     let cluster = cluster()?;
-    let store = no_facts(rt.alloc())?;
-    let mut leader = asking(&rt, rt.alloc(), &store, &cluster, &claim_of(&insert()))?;
+    let mut leader = asking(rt, alloc, &store, &cluster, &claim_of(&insert()))?;
     let higher = Ballot {
         round: 7,
         epoch: 1,
         centre: 5,
     };
     leader.on_refused(&key(b'a'), LED, higher);
-    let late = promise(0, 100, first_won(rt.alloc())?);
+    let late = promise(0, 100, first_won(alloc)?);
     let answer = promised(&mut leader, &store, &cluster, 1, &late)?;
     assert!(rt; matches!(answer, PromiseAnswer::Ignored));
     let anew = leader.lead(&store, &cluster, &claim_of(&insert()))?;
@@ -423,10 +478,17 @@ fn a_refused_lead_is_led_anew(rt: HostRuntime) -> Result<(), Fail> {
 // The 16,385th rejection of a structure is left out.
 #[test]
 fn one_rejection_too_many_is_left_out(rt: HostRuntime) -> Result<(), Fail> {
+    one_rejection_too_many_is_left_out_over(&rt, rt.alloc(), no_facts(rt.alloc())?)
+}
+
+fn one_rejection_too_many_is_left_out_over<S: FactStore + Drop>(
+    rt: &impl Abort,
+    alloc: Global,
+    store: S,
+) -> Result<(), Fail> {
     let cluster = single()?;
-    let store = no_facts(rt.alloc())?;
-    let mut leader = asking(&rt, rt.alloc(), &store, &cluster, &claim(tx(1), 0, None))?;
-    let votes = rejections(rt.alloc(), 16_384)?;
+    let mut leader = asking(rt, alloc, &store, &cluster, &claim(tx(1), 0, None))?;
+    let votes = rejections(alloc, 16_384)?;
     let options = structure(&mut leader, &store, &cluster, 1, &promise(0, 100, votes))?;
     assert!(rt; options.rejected() == 16_384);
     let answer = leader.lead(&store, &cluster, &claim(tx(16_385), 0, None))?;

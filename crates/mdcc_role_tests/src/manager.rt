@@ -1,7 +1,8 @@
 //! What a manager does with votes.
-use crate::values::{centre, cluster, insert, item, key, tx};
+use crate::values::{centre, cluster, insert, item, key, six, tx};
 use mdcc_base::{Ballot, BoundedList, TxId};
 use mdcc_def_protocol::{ManagerAct, Vote};
+use mdcc_facts::FactStore;
 use mdcc_manager::{Manager, key_refused};
 use mdcc_option::{BeginFault, Cause, Cluster, Mark, Outcome, Part, Transaction, Update};
 use mdcc_tests::adding::no_facts;
@@ -20,10 +21,13 @@ fn drafted(cluster: &Cluster) -> Result<Transaction, Fail> {
 }
 
 // A manager at centre 1 that began the insert where nothing is held.
-fn beginning(alloc: Global, cluster: &Cluster) -> Result<(Manager, TxId), Fail> {
-    let store = no_facts(alloc)?;
+fn beginning<S: FactStore>(
+    alloc: Global,
+    store: &S,
+    cluster: &Cluster,
+) -> Result<(Manager, TxId), Fail> {
     let mut manager = Manager::new(alloc, centre(1), 1)?;
-    let begun = manager.begin(&store, &drafted(cluster)?)?;
+    let begun = manager.begin(store, &drafted(cluster)?)?;
     Ok((manager, begun))
 }
 
@@ -60,11 +64,19 @@ fn take(rt: &impl Abort, manager: &mut Manager, votes: &[Vote]) -> Result<(), Fa
 // Four votes of five that accept decide an insert.
 #[test]
 fn a_fast_quorum_decides(rt: HostRuntime) -> Result<(), Fail> {
+    a_fast_quorum_decides_over(&rt, rt.alloc(), no_facts(rt.alloc())?)
+}
+
+fn a_fast_quorum_decides_over<S: FactStore + Drop>(
+    rt: &impl Abort,
+    alloc: Global,
+    store: S,
+) -> Result<(), Fail> {
     let cluster = cluster()?;
-    let (mut manager, begun) = beginning(rt.alloc(), &cluster)?;
+    let (mut manager, begun) = beginning(alloc, &store, &cluster)?;
     assert!(rt; begun == tx(1));
     assert!(rt; manager.opened() == [tx(1)].as_slice());
-    take(&rt, &mut manager, &[accepted(1), accepted(2), accepted(3)])?;
+    take(rt, &mut manager, &[accepted(1), accepted(2), accepted(3)])?;
     assert!(rt; manager.decision(begun).is_none());
     assert!(rt; manager.would_decide(&cluster, &accepted(5)).is_some());
     let act = manager.on_voted(&cluster, &accepted(5))?;
@@ -77,9 +89,16 @@ fn a_fast_quorum_decides(rt: HostRuntime) -> Result<(), Fail> {
 // The next transaction of an epoch has the next number, whether the last one is open or not.
 #[test]
 fn transactions_are_numbered_in_turn(rt: HostRuntime) -> Result<(), Fail> {
+    transactions_are_numbered_in_turn_over(&rt, rt.alloc(), no_facts(rt.alloc())?)
+}
+
+fn transactions_are_numbered_in_turn_over<S: FactStore + Drop>(
+    rt: &impl Abort,
+    alloc: Global,
+    store: S,
+) -> Result<(), Fail> {
     let cluster = cluster()?;
-    let store = no_facts(rt.alloc())?;
-    let (mut manager, begun) = beginning(rt.alloc(), &cluster)?;
+    let (mut manager, begun) = beginning(alloc, &store, &cluster)?;
     assert!(rt; manager.is_open(begun));
     assert!(rt; manager.begin(&store, &drafted(&cluster)?)? == tx(2));
     manager.close(begun);
@@ -91,9 +110,17 @@ fn transactions_are_numbered_in_turn(rt: HostRuntime) -> Result<(), Fail> {
 // A second insert of what is held is stale.
 #[test]
 fn a_stale_insert_is_refused(rt: HostRuntime) -> Result<(), Fail> {
+    a_stale_insert_is_refused_over(&rt, rt.alloc(), no_facts(rt.alloc())?)
+}
+
+fn a_stale_insert_is_refused_over<S: FactStore + Drop>(
+    rt: &impl Abort,
+    alloc: Global,
+    store: S,
+) -> Result<(), Fail> {
     let cluster = cluster()?;
-    let store = crate::values::six(rt.alloc())?;
-    let mut manager = Manager::new(rt.alloc(), centre(1), 1)?;
+    let store = six(alloc, store)?;
+    let mut manager = Manager::new(alloc, centre(1), 1)?;
     let begun = manager.begin(&store, &drafted(&cluster)?);
     assert!(rt; matches!(&begun, Err(BeginFault::Stale(token)) if token.version == 1));
     assert!(rt; key_refused(&store, &drafted(&cluster)?) == key(b'a'));
@@ -112,12 +139,20 @@ fn leader_of(act: &Option<ManagerAct>) -> Option<u8> {
 // Two votes that accept and two that reject leave no mark a fast quorum: the key's home leads, once.
 #[test]
 fn a_collision_goes_to_the_home(rt: HostRuntime) -> Result<(), Fail> {
+    a_collision_goes_to_the_home_over(&rt, rt.alloc(), no_facts(rt.alloc())?)
+}
+
+fn a_collision_goes_to_the_home_over<S: FactStore + Drop>(
+    rt: &impl Abort,
+    alloc: Global,
+    store: S,
+) -> Result<(), Fail> {
     let cluster = cluster()?;
-    let (mut manager, _) = beginning(rt.alloc(), &cluster)?;
-    take(&rt, &mut manager, &[accepted(1), accepted(2), rejected(3)])?;
+    let (mut manager, _) = beginning(alloc, &store, &cluster)?;
+    take(rt, &mut manager, &[accepted(1), accepted(2), rejected(3)])?;
     let act = manager.on_voted(&cluster, &rejected(4))?;
     assert!(rt; leader_of(&act) == Some(3));
-    take(&rt, &mut manager, &[rejected(5)])?;
+    take(rt, &mut manager, &[rejected(5)])?;
     Ok(())
 }
 
@@ -132,8 +167,16 @@ fn given_to(act: &Option<ManagerAct>) -> Option<u8> {
 // A centre that is behind is given the key's data.
 #[test]
 fn a_centre_that_is_behind_is_given_data(rt: HostRuntime) -> Result<(), Fail> {
+    a_centre_that_is_behind_is_given_data_over(&rt, rt.alloc(), no_facts(rt.alloc())?)
+}
+
+fn a_centre_that_is_behind_is_given_data_over<S: FactStore + Drop>(
+    rt: &impl Abort,
+    alloc: Global,
+    store: S,
+) -> Result<(), Fail> {
     let cluster = cluster()?;
-    let (mut manager, begun) = beginning(rt.alloc(), &cluster)?;
+    let (mut manager, begun) = beginning(alloc, &store, &cluster)?;
     let act = manager.on_escalate(&cluster, centre(3), begun, &key(b'a'), Cause::Behind);
     assert!(rt; given_to(&act) == Some(3));
     Ok(())
@@ -142,8 +185,16 @@ fn a_centre_that_is_behind_is_given_data(rt: HostRuntime) -> Result<(), Fail> {
 // At ticks an option that is not learned is proposed again, and then led here.
 #[test]
 fn ticks_propose_and_lead(rt: HostRuntime) -> Result<(), Fail> {
+    ticks_propose_and_lead_over(&rt, rt.alloc(), no_facts(rt.alloc())?)
+}
+
+fn ticks_propose_and_lead_over<S: FactStore + Drop>(
+    rt: &impl Abort,
+    alloc: Global,
+    store: S,
+) -> Result<(), Fail> {
     let cluster = cluster()?;
-    let (mut manager, _) = beginning(rt.alloc(), &cluster)?;
+    let (mut manager, _) = beginning(alloc, &store, &cluster)?;
     assert!(rt; matches!(manager.tick()?.as_slice(), [ManagerAct::Propose(_)]));
     assert!(rt; matches!(manager.tick()?.as_slice(), [ManagerAct::LeadHere(_)]));
     Ok(())

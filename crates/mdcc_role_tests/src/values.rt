@@ -1,9 +1,8 @@
 //! Values of worked schedules: an insert of 10 under key a, and decreases of 4.
 use mdcc_base::{Ballot, BoundedList, Centre, Key, Quorums, TxId};
-use mdcc_facts::Fact;
-use mdcc_index::PoolFacts;
+use mdcc_facts::{Fact, FactStore};
 use mdcc_option::{Choice, Cluster, FastLimit, Item, Outcome, Schema, Update};
-use mdcc_tests::adding::{no_facts, put};
+use mdcc_tests::adding::put;
 use std::alloc::Global;
 use std::test::Fail;
 
@@ -79,9 +78,13 @@ fn committed(choice: Choice) -> Fact {
     }
 }
 
-/// A store that heard these committed.
-pub fn holding(alloc: Global, choices: Vec<Choice>) -> Result<PoolFacts, Fail> {
-    let mut store = no_facts(alloc)?;
+/// The store, once it heard these committed.
+pub fn holding<S: FactStore + Drop>(
+    alloc: Global,
+    store: S,
+    choices: Vec<Choice>,
+) -> Result<S, Fail> {
+    let mut store = store;
     for choice in choices {
         if !put(alloc, &mut store, &committed(choice)) {
             return Err("the fact is new".into());
@@ -90,7 +93,7 @@ pub fn holding(alloc: Global, choices: Vec<Choice>) -> Result<PoolFacts, Fail> {
     Ok(store)
 }
 
-/// A store that heard the insert and the decrease of transaction 2 committed.
-pub fn six(alloc: Global) -> Result<PoolFacts, Fail> {
-    holding(alloc, vec![in alloc; insert(), decrease(2)]?)
+/// The store, once it heard the insert and the decrease of transaction 2 committed.
+pub fn six<S: FactStore + Drop>(alloc: Global, store: S) -> Result<S, Fail> {
+    holding(alloc, store, vec![in alloc; insert(), decrease(2)]?)
 }

@@ -2,10 +2,12 @@
 use crate::values::{decrease, holding, insert, item, key, six, tx};
 use mdcc_base::{BoundedList, Plain};
 use mdcc_def_protocol::{Give, Reading};
+use mdcc_facts::FactStore;
 use mdcc_option::{Delta, Outcome, Token};
 use mdcc_tests::adding::no_facts;
 use mdcc_visible::{on_outcome, on_sync_ask, on_sync_give, read, rebase_due};
 use std::alloc::Global;
+use std::process::Abort;
 use std::test::Fail;
 
 // Whether a read shows 6 at version 1, with the second transaction in it.
@@ -20,14 +22,30 @@ fn is_six(shown: &Reading) -> bool {
 // 10 less 4, seen with the transaction that took them.
 #[test]
 fn a_read_shows_the_executed_deltas(rt: HostRuntime) -> Result<(), Fail> {
-    let store = six(rt.alloc())?;
+    a_read_shows_the_executed_deltas_over(&rt, rt.alloc(), no_facts(rt.alloc())?)
+}
+
+fn a_read_shows_the_executed_deltas_over<S: FactStore + Drop>(
+    rt: &impl Abort,
+    alloc: Global,
+    store: S,
+) -> Result<(), Fail> {
+    let store = six(alloc, store)?;
     assert!(rt; is_six(&read(&store, &key(b'a'))) && !rebase_due(&store, &key(b'a')));
     Ok(())
 }
 
 #[test]
 fn an_outcome_is_heard_once(rt: HostRuntime) -> Result<(), Fail> {
-    let store = six(rt.alloc())?;
+    an_outcome_is_heard_once_over(&rt, rt.alloc(), no_facts(rt.alloc())?)
+}
+
+fn an_outcome_is_heard_once_over<S: FactStore + Drop>(
+    rt: &impl Abort,
+    alloc: Global,
+    store: S,
+) -> Result<(), Fail> {
+    let store = six(alloc, store)?;
     assert!(rt; on_outcome(&store, tx(2), &Outcome::Abort).is_none());
     assert!(rt; on_outcome(&store, tx(3), &Outcome::Abort).is_some());
     Ok(())
@@ -48,30 +66,43 @@ fn is_whole(give: &Give) -> bool {
 // What a centre holds goes to one that holds nothing, and brings it no news a second time.
 #[test]
 fn a_centre_gives_what_it_holds(rt: HostRuntime) -> Result<(), Fail> {
-    let store = six(rt.alloc())?;
-    assert!(rt; on_sync_ask(rt.alloc(), &store, &key(b'b'))?.is_none());
-    let give = on_sync_ask(rt.alloc(), &store, &key(b'a'))?.ok_or("version 1")?;
+    a_centre_gives_what_it_holds_over(
+        &rt,
+        rt.alloc(),
+        no_facts(rt.alloc())?,
+        no_facts(rt.alloc())?,
+    )
+}
+
+fn a_centre_gives_what_it_holds_over<S: FactStore + Drop>(
+    rt: &impl Abort,
+    alloc: Global,
+    store: S,
+    behind: S,
+) -> Result<(), Fail> {
+    let store = six(alloc, store)?;
+    assert!(rt; on_sync_ask(alloc, &store, &key(b'b'))?.is_none());
+    let give = on_sync_ask(alloc, &store, &key(b'a'))?.ok_or("version 1")?;
     assert!(rt; is_whole(&give));
-    assert!(rt; on_sync_give(rt.alloc(), &store, &give)?.is_none());
-    let behind = no_facts(rt.alloc())?;
-    assert!(rt; on_sync_give(rt.alloc(), &behind, &give)?.is_some());
+    assert!(rt; on_sync_give(alloc, &store, &give)?.is_none());
+    assert!(rt; on_sync_give(alloc, &behind, &give)?.is_some());
     Ok(())
 }
 
 // Whether a rebase is due after so many decreases.
-fn is_due(alloc: Global, count: u32) -> Result<bool, Fail> {
+fn is_due<S: FactStore + Drop>(alloc: Global, store: S, count: u32) -> Result<bool, Fail> {
     let mut choices = vec![in alloc; insert()]?;
     for seq in 1..=count {
         choices.push(decrease(seq.saturating_add(1)))?;
     }
-    let store = holding(alloc, choices)?;
+    let store = holding(alloc, store, choices)?;
     Ok(rebase_due(&store, &key(b'a')))
 }
 
 // From 32 deltas on the value is to be written anew.
 #[test]
 fn a_rebase_is_due_at_32(rt: HostRuntime) -> Result<(), Fail> {
-    assert!(rt; !is_due(rt.alloc(), 31)?);
-    assert!(rt; is_due(rt.alloc(), 32)?);
+    assert!(rt; !is_due(rt.alloc(), no_facts(rt.alloc())?, 31)?);
+    assert!(rt; is_due(rt.alloc(), no_facts(rt.alloc())?, 32)?);
     Ok(())
 }
