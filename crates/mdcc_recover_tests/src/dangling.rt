@@ -2,9 +2,11 @@
 use crate::values::{choice, cluster, key, tx, vote, voted};
 use mdcc_base::{Key, TxId};
 use mdcc_def_protocol::{RecoverAct, Vote};
-use mdcc_index::PoolFacts;
+use mdcc_facts::FactStore;
 use mdcc_option::{Claim, Mark, Outcome};
 use mdcc_recover::Recover;
+use mdcc_tests::adding::no_facts;
+use std::alloc::Global;
 use std::process::Abort;
 use std::test::Fail;
 
@@ -25,10 +27,10 @@ fn led(acts: &[RecoverAct], place: usize) -> Option<&Claim> {
 }
 
 // Ticks at which nothing is done.
-fn wait(
+fn wait<S: FactStore>(
     rt: &impl Abort,
     recover: &mut Recover,
-    store: &PoolFacts,
+    store: &S,
     opened: &[TxId],
 ) -> Result<(), Fail> {
     assert!(rt; recover.tick(store, opened)?.is_empty());
@@ -36,7 +38,7 @@ fn wait(
 }
 
 // The tick at which all centres are asked on both keys.
-fn ask(rt: &impl Abort, recover: &mut Recover, store: &PoolFacts) -> Result<(), Fail> {
+fn ask<S: FactStore>(rt: &impl Abort, recover: &mut Recover, store: &S) -> Result<(), Fail> {
     let acts = recover.tick(store, &[])?;
     assert_eq!(rt; acts.len(), 2);
     assert_eq!(rt; asked(&acts, 0), Some((tx(), key(b'a'), 0)));
@@ -45,10 +47,10 @@ fn ask(rt: &impl Abort, recover: &mut Recover, store: &PoolFacts) -> Result<(), 
 }
 
 // Votes of some centres on a key that decide nothing.
-fn take(
+fn take<S: FactStore>(
     rt: &impl Abort,
     recover: &mut Recover,
-    store: &PoolFacts,
+    store: &S,
     letter: u8,
     centres: &[u8],
 ) -> Result<(), Fail> {
@@ -74,17 +76,19 @@ fn committed(decided: &Option<(TxId, Outcome)>) -> Option<usize> {
     }
 }
 
-// At the second tick all centres are asked on each key, and the fourth vote on the second key
-// commits. Once it is closed the transaction is counted anew.
-#[test]
-fn votes_finish_a_transaction(rt: HostRuntime) -> Result<(), Fail> {
+// In a store that is given empty.
+fn votes_finish_a_transaction_over<S: FactStore + Drop>(
+    rt: &impl Abort,
+    alloc: Global,
+    store: S,
+) -> Result<(), Fail> {
     let cluster = cluster()?;
-    let store = voted(rt.alloc(), b"ab")?;
-    let mut recover = Recover::new(rt.alloc())?;
-    wait(&rt, &mut recover, &store, &[])?;
-    ask(&rt, &mut recover, &store)?;
-    take(&rt, &mut recover, &store, b'a', &[2, 3, 4, 5])?;
-    take(&rt, &mut recover, &store, b'b', &[2, 3, 4])?;
+    let store = voted(alloc, store, b"ab")?;
+    let mut recover = Recover::new(alloc)?;
+    wait(rt, &mut recover, &store, &[])?;
+    ask(rt, &mut recover, &store)?;
+    take(rt, &mut recover, &store, b'a', &[2, 3, 4, 5])?;
+    take(rt, &mut recover, &store, b'b', &[2, 3, 4])?;
     let last = accepting(5, b'b');
     assert_eq!(rt;
         committed(&recover.would_decide(&store, &cluster, &last)),
@@ -96,22 +100,32 @@ fn votes_finish_a_transaction(rt: HostRuntime) -> Result<(), Fail> {
     );
     recover.close(tx());
     assert!(rt; recover.would_decide(&store, &cluster, &last).is_none());
-    wait(&rt, &mut recover, &store, &[])?;
-    ask(&rt, &mut recover, &store)?;
-    take(&rt, &mut recover, &store, b'b', &[5])
+    wait(rt, &mut recover, &store, &[])?;
+    ask(rt, &mut recover, &store)?;
+    take(rt, &mut recover, &store, b'b', &[5])
 }
 
-// The key that four centres accepted is learned. The other one, on which nobody voted, is led at
-// the fourth tick and at the sixth, without a choice.
+// At the second tick all centres are asked on each key, and the fourth vote on the second key
+// commits. Once it is closed the transaction is counted anew.
 #[test]
-fn what_is_not_learned_is_led(rt: HostRuntime) -> Result<(), Fail> {
-    let store = voted(rt.alloc(), b"a")?;
-    let mut recover = Recover::new(rt.alloc())?;
-    wait(&rt, &mut recover, &store, &[])?;
-    ask(&rt, &mut recover, &store)?;
-    take(&rt, &mut recover, &store, b'a', &[2, 3, 4, 5])?;
+fn votes_finish_a_transaction(rt: HostRuntime) -> Result<(), Fail> {
+    let store = no_facts(rt.alloc())?;
+    votes_finish_a_transaction_over(&rt, rt.alloc(), store)
+}
+
+// In a store that is given empty.
+fn what_is_not_learned_is_led_over<S: FactStore + Drop>(
+    rt: &impl Abort,
+    alloc: Global,
+    store: S,
+) -> Result<(), Fail> {
+    let store = voted(alloc, store, b"a")?;
+    let mut recover = Recover::new(alloc)?;
+    wait(rt, &mut recover, &store, &[])?;
+    ask(rt, &mut recover, &store)?;
+    take(rt, &mut recover, &store, b'a', &[2, 3, 4, 5])?;
     for _time in 0..2 {
-        wait(&rt, &mut recover, &store, &[])?;
+        wait(rt, &mut recover, &store, &[])?;
         let acts = recover.tick(&store, &[])?;
         assert_eq!(rt; acts.len(), 1);
         let claim = Claim {
@@ -125,19 +139,29 @@ fn what_is_not_learned_is_led(rt: HostRuntime) -> Result<(), Fail> {
     Ok(())
 }
 
-// Votes before the second tick do not count, though that tick counts from the first on. A claim has
-// the choice of a vote that was taken, or else that of an own vote.
+// The key that four centres accepted is learned. The other one, on which nobody voted, is led at
+// the fourth tick and at the sixth, without a choice.
 #[test]
-fn a_vote_that_was_taken_goes_first(rt: HostRuntime) -> Result<(), Fail> {
+fn what_is_not_learned_is_led(rt: HostRuntime) -> Result<(), Fail> {
+    let store = no_facts(rt.alloc())?;
+    what_is_not_learned_is_led_over(&rt, rt.alloc(), store)
+}
+
+// In a store that is given empty.
+fn a_vote_that_was_taken_goes_first_over<S: FactStore + Drop>(
+    rt: &impl Abort,
+    alloc: Global,
+    store: S,
+) -> Result<(), Fail> {
     let cluster = cluster()?;
-    let store = voted(rt.alloc(), b"ab")?;
-    let mut recover = Recover::new(rt.alloc())?;
-    wait(&rt, &mut recover, &store, &[])?;
-    take(&rt, &mut recover, &store, b'a', &[2, 3, 4, 5])?;
-    ask(&rt, &mut recover, &store)?;
+    let store = voted(alloc, store, b"ab")?;
+    let mut recover = Recover::new(alloc)?;
+    wait(rt, &mut recover, &store, &[])?;
+    take(rt, &mut recover, &store, b'a', &[2, 3, 4, 5])?;
+    ask(rt, &mut recover, &store)?;
     let other = vote(3, b'a', Mark::Accept(choice(b'a', 7)));
     assert!(rt; recover.on_voted(&store, &cluster, &other)?.is_none());
-    wait(&rt, &mut recover, &store, &[])?;
+    wait(rt, &mut recover, &store, &[])?;
     let acts = recover.tick(&store, &[])?;
     assert_eq!(rt; acts.len(), 2);
     assert_eq!(rt;
@@ -151,16 +175,27 @@ fn a_vote_that_was_taken_goes_first(rt: HostRuntime) -> Result<(), Fail> {
     Ok(())
 }
 
-// A transaction that is open here is not counted. Four rejections of one key abort it.
+// Votes before the second tick do not count, though that tick counts from the first on. A claim has
+// the choice of a vote that was taken, or else that of an own vote.
 #[test]
-fn one_rejected_key_aborts(rt: HostRuntime) -> Result<(), Fail> {
+fn a_vote_that_was_taken_goes_first(rt: HostRuntime) -> Result<(), Fail> {
+    let store = no_facts(rt.alloc())?;
+    a_vote_that_was_taken_goes_first_over(&rt, rt.alloc(), store)
+}
+
+// In a store that is given empty.
+fn one_rejected_key_aborts_over<S: FactStore + Drop>(
+    rt: &impl Abort,
+    alloc: Global,
+    store: S,
+) -> Result<(), Fail> {
     let cluster = cluster()?;
-    let store = voted(rt.alloc(), b"ab")?;
-    let mut recover = Recover::new(rt.alloc())?;
-    wait(&rt, &mut recover, &store, &[tx()])?;
-    wait(&rt, &mut recover, &store, &[tx()])?;
-    wait(&rt, &mut recover, &store, &[])?;
-    ask(&rt, &mut recover, &store)?;
+    let store = voted(alloc, store, b"ab")?;
+    let mut recover = Recover::new(alloc)?;
+    wait(rt, &mut recover, &store, &[tx()])?;
+    wait(rt, &mut recover, &store, &[tx()])?;
+    wait(rt, &mut recover, &store, &[])?;
+    ask(rt, &mut recover, &store)?;
     for from in [1, 2, 3] {
         let next = vote(from, b'b', Mark::Reject);
         assert!(rt; recover.on_voted(&store, &cluster, &next)?.is_none());
@@ -168,4 +203,11 @@ fn one_rejected_key_aborts(rt: HostRuntime) -> Result<(), Fail> {
     let decided = recover.on_voted(&store, &cluster, &vote(4, b'b', Mark::Reject))?;
     assert!(rt; matches!(decided, Some((_, Outcome::Abort))));
     Ok(())
+}
+
+// A transaction that is open here is not counted. Four rejections of one key abort it.
+#[test]
+fn one_rejected_key_aborts(rt: HostRuntime) -> Result<(), Fail> {
+    let store = no_facts(rt.alloc())?;
+    one_rejected_key_aborts_over(&rt, rt.alloc(), store)
 }

@@ -2,11 +2,10 @@
 //! that voted on it.
 use mdcc_base::{Ballot, BoundedList, Centre, Key, Quorums, TxId};
 use mdcc_def_protocol::Vote;
-use mdcc_facts::Fact;
-use mdcc_index::PoolFacts;
+use mdcc_facts::{Fact, FactStore};
 use mdcc_option::{Choice, Cluster, FastLimit, Item, Mark, Schema, Update};
 use mdcc_struct::Options;
-use mdcc_tests::adding::{no_facts, put};
+use mdcc_tests::adding::put;
 use std::alloc::Global;
 use std::test::Fail;
 
@@ -65,9 +64,9 @@ pub fn vote(from: u8, letter: u8, mark: Mark) -> Vote {
     }
 }
 
-/// A store of a centre that accepted its options for these keys, with the value 1.
-pub fn voted(alloc: Global, letters: &[u8]) -> Result<PoolFacts, Fail> {
-    let mut store = no_facts(alloc)?;
+/// The store of a centre that accepted its options for these keys, with the value 1. It is given
+/// empty.
+pub fn voted<S: FactStore + Drop>(alloc: Global, mut store: S, letters: &[u8]) -> Result<S, Fail> {
     for letter in letters {
         let mut options = Options::new(alloc)?;
         options.insert(tx(), Mark::Accept(choice(*letter, 1)))?;
