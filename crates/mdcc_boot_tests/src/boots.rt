@@ -1,4 +1,6 @@
 //! Boots from a few payloads.
+ghost use Rattle.std.specs.Prelude.{[]};
+
 use crate::setup::{BOOTED, FLOOR, HEARD, PROMISED, five_centres};
 use mdcc_base::{Centre, HeapList};
 use mdcc_def_messages::Fact;
@@ -39,7 +41,9 @@ fn booted_over<S: FactStore + Drop>(
     alloc: Global,
     store: S,
     payloads: &[&[u8]],
-) -> Result<Result<u32, BootFault>, Fail> {
+) -> Result<Result<u32, BootFault>, Fail>
+    requires { S.stands store [] }
+{
     let cluster = five_centres(rt);
     let centre = Centre::new(1).unwrap_or_default();
     let kept = logged(alloc, payloads)?;

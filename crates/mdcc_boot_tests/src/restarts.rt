@@ -1,5 +1,5 @@
 //! Starts over disks in memory, and after a crash in each call of an append.
-ghost use Rattle.std.specs.Prelude.{length, ◌≤◌};
+ghost use Rattle.std.specs.Prelude.{[], length, ◌≤◌};
 
 use crate::setup::{BOOTED, HEARD, PROMISED, five_centres};
 use mdcc_base::{Centre, Image};
@@ -51,7 +51,8 @@ fn restarted_with<S: FactStore + Drop>(
     disks: &mut MemoryDisks,
     every: u32,
 ) -> Result<Result<u32, StartFault>, Fail>
-    requires { 1 ≤ every }
+    requires empty { S.stands store [] }
+    requires every { 1 ≤ every }
 {
     let cluster = five_centres(rt);
     let centre = Centre::new(1).unwrap_or_default();
